@@ -1,0 +1,218 @@
+-- Lists made from places, which is what a view of a table is: an element changed, taken out, put at the end or looked for.
+-- Assumes nothing.
+use Prim.Native.Nat.{ℕ, suc, zero, _+_, _≤_, _<_}
+use mathlib.Core.Path.{_≡_, refl, ap, _∙_}
+use mathlib.Core.Bool.{Bool, true, false}
+use mathlib.Core.List.{List, [], _∷_, _++_}
+use mathlib.Core.Logic.{_≢_}
+use native.Mathlib.Omega.{arith}
+use native.Mathlib.Nat.{add-zero}
+use native.Mathlib.Numerals.{add-one}
+use lib.ListN.{length, getD, drop}
+use Rattle.laws.specs.Pick.{pick, pick-ind, pick-ap, pick-eq}
+use Rattle.laws.specs.Loop.{first}
+use Rattle.laws.specs.Rows.{at, at-same, at-other}
+
+module _ {A : Type 0} where
+  -- the list of what g gives at each of m places from i on
+  unfoldable pub tab : (ℕ → A) → ℕ → ℕ → List A
+  tab g i zero = []
+  tab g i (suc m) = g i ∷ tab g (suc i) m
+
+  -- the list with element i changed by f, if it has one
+  unfoldable pub onAt : ℕ → (A → A) → List A → List A
+  onAt i f [] = []
+  onAt zero f (a ∷ l) = f a ∷ l
+  onAt (suc i) f (a ∷ l) = a ∷ onAt i f l
+
+  -- the list without its element i, if it has one
+  unfoldable pub without : ℕ → List A → List A
+  without i [] = []
+  without zero (a ∷ l) = l
+  without (suc i) (a ∷ l) = a ∷ without i l
+
+  -- the place of the first element that p holds of, else the length
+  unfoldable pub indexOf : (A → Bool) → List A → ℕ
+  indexOf p [] = 0
+  indexOf p (a ∷ l) = pick (p a) 0 (suc (indexOf p l))
+
+  -- m places give m elements
+  pub length-tab : (g : ℕ → A) (i m : ℕ) → length (tab g i m) ≡ m
+  unfolding tab
+  length-tab g i zero = refl
+  length-tab g i (suc m) = ap suc (length-tab g (suc i) m)
+
+  -- element j is what g gives j places on
+  pub getD-tab : (g : ℕ → A) (i m j : ℕ) (d : A) → j < m → getD (tab g i m) j d ≡ g (i + j)
+  unfolding tab
+  getD-tab g i zero j d h = absurd (omega arith)
+  getD-tab g i (suc m) zero d h = rw add-zero
+  getD-tab g i (suc m) (suc j) d h = let z : i + suc j ≡ suc i + j = omega arith in rw z (getD-tab g (suc i) m j d (omega arith))
+
+  -- functions that agree at each place make the same list
+  pub tab-ext : (g h : ℕ → A) (i m : ℕ) → ((k : ℕ) → i ≤ k → k < i + m → g k ≡ h k) → tab g i m ≡ tab h i m
+  unfolding tab
+  tab-ext g h i zero e = refl
+  tab-ext g h i (suc m) e =
+      rw (e i (omega arith) (omega arith), tab-ext g h (suc i) m (λ k a b. e k (omega arith) (omega arith)))
+
+  -- where h is at each place what g is at the next, h makes the list that g makes one place on
+  pub tab-shift : (g h : ℕ → A) (i m : ℕ) → ((k : ℕ) → i ≤ k → k < i + m → h k ≡ g (k + 1)) → tab h i m ≡ tab g (i + 1) m
+  unfolding tab
+  tab-shift g h i zero e = refl
+  tab-shift g h i (suc m) e =
+      let s : suc (i + 1) ≡ suc i + 1 = omega arith in
+      rw (s, e i (omega arith) (omega arith), tab-shift g h (suc i) m (λ k a b. e k (omega arith) (omega arith)))
+
+  -- one place more makes one element more, at the end
+  pub tab-snoc : (g : ℕ → A) (i m : ℕ) → tab g i (m + 1) ≡ tab g i m ++ (g (i + m) ∷ [])
+  unfolding tab
+  tab-snoc g i zero = rw add-zero
+  tab-snoc g i (suc m) =
+      let a : suc m + 1 ≡ suc (m + 1) = omega arith in
+      let b : i + suc m ≡ suc i + m = omega arith in
+      rw (a, b, tab-snoc g (suc i) m)
+
+  -- where h is g but for one place, changed by f, h makes the list of g with that element changed
+  pub tab-at : (g h : ℕ → A) (f : A → A) (i m j : ℕ) → h (i + j) ≡ f (g (i + j))
+      → ((k : ℕ) → i ≤ k → k < i + m → k ≢ i + j → h k ≡ g k) → tab h i m ≡ onAt j f (tab g i m)
+  unfolding tab onAt
+  tab-at g h f i zero j e o = refl
+  tab-at g h f i (suc m) zero e o =
+      let e′ : h i ≡ f (g i) = rw add-zero at e in
+      rw (e′, tab-ext h g (suc i) m (λ k a b. o k (omega arith) (omega arith) (λ q. omega arith)))
+  tab-at g h f i (suc m) (suc j) e o =
+      let z : i + suc j ≡ suc i + j = omega arith in
+      let e′ : h (suc i + j) ≡ f (g (suc i + j)) = rw z at e in
+      rw (
+        o i (omega arith) (omega arith) (λ q. omega arith),
+        tab-at g h f (suc i) m j e′ (λ k a b n. o k (omega arith) (omega arith) (λ q. n (omega arith))),
+      )
+
+  -- where h is g up to a place, and from there what g is at the next, h makes the list of g with that element taken out
+  pub tab-without : (g h : ℕ → A) (i m j : ℕ) → j < m + 1 → ((k : ℕ) → i ≤ k → k < i + j → h k ≡ g k)
+      → ((k : ℕ) → i + j ≤ k → k < i + m → h k ≡ g (k + 1)) → tab h i m ≡ without j (tab g i (m + 1))
+  unfolding tab without
+  tab-without g h i m zero l a b =
+      rw (add-one m, ← (add-one i)) (tab-shift g h i m (λ k p q. b k (omega arith) q))
+  tab-without g h i zero (suc j) l a b = absurd (omega arith)
+  tab-without g h i (suc m) (suc j) l a b =
+      let s : suc m + 1 ≡ suc (m + 1) = omega arith in
+      rw (
+        s,
+        a i (omega arith) (omega arith),
+        tab-without g h (suc i) m j (omega arith) (λ k p q. a k (omega arith) (omega arith)) (λ k p q. b k (omega arith) (omega arith)),
+      )
+
+  -- where h is at each place what g is at the next, and x at the last, h makes the list of g with its first element gone and x at the end
+  pub tab-push : (g h : ℕ → A) (x : A) (i m : ℕ) → ((k : ℕ) → i ≤ k → k < i + m → h k ≡ g (k + 1)) → h (i + m) ≡ x
+      → tab h i (m + 1) ≡ drop 1 (tab g i (m + 1)) ++ (x ∷ [])
+  unfolding tab
+  tab-push g h x i m e l = tab-snoc h i m ∙ rw (add-one m, l, tab-shift g h i m e, add-one i)
+
+  -- a search by places is a search in the list
+  pub first-tab : (p : A → Bool) (g : ℕ → A) (q : ℕ → Bool) (i m : ℕ) → ((k : ℕ) → i ≤ k → k < i + m → q k ≡ p (g k))
+      → first q i m ≡ i + indexOf p (tab g i m)
+  unfolding tab indexOf first
+  first-tab p g q i zero e = omega arith
+  first-tab p g q i (suc m) e =
+      let s = first-tab p g q (suc i) m (λ k a b. e k (omega arith) (omega arith)) in
+      rw (e i (omega arith) (omega arith), pick-ap (λ (r : ℕ). i + r)) (pick-eq _ _ _ _ _ (λ _. omega arith) (λ _. omega arith))
+
+  -- a change past the end changes nothing
+  pub onAt-out : (i : ℕ) (f : A → A) (l : List A) → length l ≤ i → onAt i f l ≡ l
+  unfolding onAt
+  onAt-out i f [] h = refl
+  onAt-out zero f (a ∷ l) h = absurd (omega arith)
+  onAt-out (suc i) f (a ∷ l) h = rw (onAt-out i f l (omega arith))
+
+  -- a change of the last element leaves those before it
+  pub onAt-last : (f : A → A) (l : List A) (x : A) → onAt (length l) f (l ++ (x ∷ [])) ≡ l ++ (f x ∷ [])
+  unfolding onAt
+  onAt-last f [] x = refl
+  onAt-last f (a ∷ l) x = rw (onAt-last f l x)
+
+  -- two changes of one element are one
+  pub onAt-onAt : (i : ℕ) (f g : A → A) (l : List A) → onAt i f (onAt i g l) ≡ onAt i (λ a. f (g a)) l
+  unfolding onAt
+  onAt-onAt i f g [] = refl
+  onAt-onAt zero f g (a ∷ l) = refl
+  onAt-onAt (suc i) f g (a ∷ l) = rw (onAt-onAt i f g l)
+
+  -- a change by places is a change in the list
+  pub at-onAt : (d : A) (i : ℕ) (f : A → A) (l : List A) → at d i f l ≡ onAt i f l
+  unfolding at onAt
+  at-onAt d i f [] = refl
+  at-onAt d zero f (a ∷ l) = refl
+  at-onAt d (suc i) f (a ∷ l) = rw (at-onAt d i f l)
+
+  -- a change keeps the length
+  pub length-onAt : (i : ℕ) (f : A → A) (l : List A) → length (onAt i f l) ≡ length l
+  unfolding onAt
+  length-onAt i f [] = refl
+  length-onAt zero f (a ∷ l) = refl
+  length-onAt (suc i) f (a ∷ l) = ap suc (length-onAt i f l)
+
+  -- element i after its change
+  pub getD-onAt : (i : ℕ) (f : A → A) (l : List A) (d : A) → i < length l → getD (onAt i f l) i d ≡ f (getD l i d)
+  getD-onAt i f l d h = rw (← (at-onAt d i f l)) (at-same d i f l h)
+
+  -- any other element is as it was
+  pub getD-onAt-other : (i k : ℕ) (f : A → A) (l : List A) (d : A) → k ≢ i → getD (onAt i f l) k d ≡ getD l k d
+  getD-onAt-other i k f l d n = rw (← (at-onAt d i f l)) (at-other d i k f l n)
+
+  -- past the end there is nothing to take out
+  pub without-out : (i : ℕ) (l : List A) → length l ≤ i → without i l ≡ l
+  unfolding without
+  without-out i [] h = refl
+  without-out zero (a ∷ l) h = absurd (omega arith)
+  without-out (suc i) (a ∷ l) h = rw (without-out i l (omega arith))
+
+  -- an element taken out makes the list one shorter
+  pub length-without : (i : ℕ) (l : List A) → i < length l → length (without i l) + 1 ≡ length l
+  unfolding without
+  length-without i [] h = absurd (omega arith)
+  length-without zero (a ∷ l) h = omega arith
+  length-without (suc i) (a ∷ l) h = omega (arith, length-without i l (omega arith))
+
+  -- each element before the one taken out keeps its place
+  pub getD-without-before : (i k : ℕ) (l : List A) (d : A) → k < i → getD (without i l) k d ≡ getD l k d
+  unfolding without
+  getD-without-before i k [] d h = refl
+  getD-without-before zero k (a ∷ l) d h = absurd (omega arith)
+  getD-without-before (suc i) zero (a ∷ l) d h = refl
+  getD-without-before (suc i) (suc k) (a ∷ l) d h = getD-without-before i k l d (omega arith)
+
+  -- each element after the one taken out moves one place down
+  pub getD-without-after : (i k : ℕ) (l : List A) (d : A) → i ≤ k → getD (without i l) k d ≡ getD l (k + 1) d
+  unfolding without
+  getD-without-after i k l d h = rw (add-one k) (go i k l h)
+    where
+      go : (i k : ℕ) (l : List A) → i ≤ k → getD (without i l) k d ≡ getD l (suc k) d
+      go i k [] h = refl
+      go zero k (a ∷ l) h = refl
+      go (suc i) zero (a ∷ l) h = absurd (omega arith)
+      go (suc i) (suc k) (a ∷ l) h = go i k l (omega arith)
+
+module _ {A : Type 0} (p : A → Bool) where
+  -- a search in a list gives at most the length
+  pub indexOf-le : (l : List A) → indexOf p l ≤ length l
+  unfolding indexOf
+  indexOf-le [] = omega arith
+  indexOf-le (a ∷ l) = pick-ind (λ (r : ℕ). r ≤ suc (length l)) (p a) _ _ (λ _. omega arith) (λ _. omega (arith, indexOf-le l))
+
+  -- p holds of the element at the place that a search gives, if there is one
+  pub indexOf-at : (l : List A) (d : A) → indexOf p l < length l → p (getD l (indexOf p l) d) ≡ true
+  unfolding indexOf
+  indexOf-at [] d = λ h. absurd (omega arith)
+  indexOf-at (a ∷ l) d =
+      pick-ind (λ (r : ℕ). r < suc (length l) → p (getD (a ∷ l) r d) ≡ true) (p a) _ _ (λ e _. e) (λ _ h. indexOf-at l d (omega arith))
+
+  -- p fails of each element before the place that a search gives
+  pub indexOf-before : (l : List A) (k : ℕ) (d : A) → k < indexOf p l → p (getD l k d) ≡ false
+  unfolding indexOf
+  indexOf-before [] k d = λ h. absurd (omega arith)
+  indexOf-before (a ∷ l) zero d = pick-ind (λ (r : ℕ). 0 < r → p a ≡ false) (p a) _ _ (λ _ h. absurd (omega arith)) (λ e _. e)
+  indexOf-before (a ∷ l) (suc k) d =
+      pick-ind (λ (r : ℕ). suc k < r → p (getD l k d) ≡ false) (p a) _ _ (λ _ h. absurd (omega arith))
+      (λ _ h. indexOf-before l k d (omega arith))

@@ -1,0 +1,3 @@
+pub mod UniqueComponent
+pub mod UniqueFingerprint
+pub mod UniqueOrder

@@ -1,0 +1,2 @@
+pub mod UniqueRead
+pub mod UniqueWrite

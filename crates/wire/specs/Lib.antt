@@ -1,0 +1,13 @@
+pub mod Number
+pub mod Element
+pub mod Place
+pub mod Write
+pub mod Bytes
+pub mod Within
+pub mod Walk
+pub mod Extend
+pub mod Exact
+pub mod ReadLaws
+pub mod WriteLaws
+pub mod Round
+pub mod Change

@@ -1,0 +1,45 @@
+//! Document 01's answer numbers.
+
+use crate::packet::Refusal;
+
+/// What an event is answered; the number is document 01's.
+#[derive(Clone, Copy, Debug, PartialEq, Eq, PartialOrd, Ord)]
+pub enum Answer {
+    Done = 0,
+    Clock = 1,
+    SmallBuffer = 2,
+    BadFace = 3,
+    TooLong = 4,
+    Malformed = 5,
+    Unsupported = 6,
+    HopLimit = 7,
+    Scope = 8,
+    Loop = 9,
+    NoRoute = 10,
+    NoRoom = 11,
+    Unsolicited = 12,
+    StaleNack = 13,
+    FaceOpen = 14,
+    BadSetting = 15,
+    TableFull = 16,
+}
+
+impl Answer {
+    /// The answer's number.
+    pub fn number(self) -> u8 {
+        self as u8
+    }
+}
+
+impl From<Refusal> for Answer {
+    /// The answer for what the reader turned away: 4, 5 or 6.
+    fn from(refusal: Refusal) -> Answer {
+        match refusal {
+            Refusal::Malformed => Answer::Malformed,
+            Refusal::Unsupported => Answer::Unsupported,
+            Refusal::PacketTooLong
+            | Refusal::NameOfTooManyComponents
+            | Refusal::NameOfTooManyBytes => Answer::TooLong,
+        }
+    }
+}

@@ -1,0 +1,52 @@
+//! The Data: scope, matching entries, store, and the copies that end requests.
+
+use super::face::{FaceNumber, Link};
+use super::history::What;
+use super::turn::{Kind, Turn};
+use super::{Answer, Node};
+use crate::packet::{data_as_it_leaves, Data, Packet};
+use std::collections::BTreeSet;
+
+impl Node {
+    /// "Store it, then end every request of the matched entries [...]. The entries leave."
+    pub(super) fn on_data(
+        &mut self,
+        arrival: FaceNumber,
+        packet: &Packet,
+        data: &Data,
+        turn: &mut Turn,
+    ) -> Answer {
+        if self.is_out_of_scope(arrival, data.name) {
+            return Answer::Scope;
+        }
+        let matched = self.pending.take(|entry| entry.matches(data.name));
+        if matched.is_empty() {
+            return Answer::Unsolicited;
+        }
+        let bytes = data_as_it_leaves(packet);
+        self.store.put(data.name, bytes, self.last_time, data.freshness);
+        let mut served = BTreeSet::new();
+        for entry in &matched {
+            for &face in entry.ins.keys() {
+                let what = self.end_by_data(arrival, face);
+                turn.happened(what, face, entry);
+                if what == What::Answered {
+                    served.insert(face);
+                }
+            }
+            self.bury(entry);
+        }
+        let served: Vec<FaceNumber> = served.into_iter().collect();
+        turn.send_to_all(&served, Kind::Data, bytes);
+        Answer::Done
+    }
+
+    /// "Those on the arrival face as self-met, unless that face is ad hoc; the others as answered."
+    fn end_by_data(&self, arrival: FaceNumber, face: FaceNumber) -> What {
+        if face == arrival && !self.faces.has_link(arrival, Link::AdHoc) {
+            What::SelfMet
+        } else {
+            What::Answered
+        }
+    }
+}
