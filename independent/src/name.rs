@@ -27,7 +27,8 @@ pub enum Reach {
     Anywhere,
 }
 
-/// "Component types are 1 to 65,535; types 1 and 2 are 6": the number of components, any 5 before any 6.
+/// "Component types are 1 to 65,535; types 1 and 2 are 6": the number of components, any 5 before
+/// any 6.
 pub fn count_components(name: &[u8]) -> Result<usize, NameFault> {
     let mut count = 0;
     let mut supported = true;

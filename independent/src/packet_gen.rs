@@ -75,6 +75,7 @@ pub fn packet(prng: &mut Prng) -> Vec<u8> {
         188..=192 => name_of_edge_size(prng).encode(),
         193 => packet_of_edge_size(prng),
         194..=195 => stacked_faults(prng).encode(),
+        196..=197 => odd_lp_packet(prng).encode(),
         _ => noise(prng),
     }
 }
@@ -483,6 +484,37 @@ fn one_repeated(prng: &mut Prng) -> Tree {
     let at = prng.below(children.len());
     children.insert(at, children[at].clone());
     tree
+}
+
+/// An LpPacket whose Nack and Fragment do not go together, or whose Fragment holds no bare packet.
+fn odd_lp_packet(prng: &mut Prng) -> Tree {
+    let reason = branch(t::NACK, vec![seven(t::NACK_REASON)]);
+    let digest_name = branch(t::NAME, vec![leaf(1, &[5])]);
+    let (asked, offered) = (interest(prng), data(prng));
+    match prng.below(9) {
+        0 => lp_packet(prng, Some(reason), vec![offered]),
+        1 => {
+            let marked = data_for(prng, digest_name);
+            lp_packet(prng, Some(reason), vec![marked])
+        }
+        2 => {
+            let inner = lp_packet(prng, None, vec![asked]);
+            lp_packet(prng, None, vec![inner])
+        }
+        3 => {
+            let piece = &asked.encode()[..5];
+            let frame = [seven(0x51), leaf(0x52, &[0]), leaf(0x53, &[2]), leaf(t::FRAGMENT, piece)];
+            branch(t::LP_PACKET, frame.to_vec())
+        }
+        4 => lp_packet(prng, Some(reason), Vec::new()),
+        5 => lp_packet(prng, None, vec![asked, offered]),
+        6 => branch(t::LP_PACKET, vec![reason]),
+        7 => branch(t::LP_PACKET, vec![branch(t::FRAGMENT, vec![asked]), reason]),
+        _ => {
+            let frame = [leaf(0x53, &[1]), reason, branch(t::FRAGMENT, vec![asked])];
+            branch(t::LP_PACKET, frame.to_vec())
+        }
+    }
 }
 
 /// A few bytes of no meaning, often after the start of a packet.

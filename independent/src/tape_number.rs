@@ -1,6 +1,8 @@
-//! A tape's numbers: "groups of seven bits, low first, top bit set on all but the last, shortest form, at most 64 bits".
+//! A tape's numbers: "groups of seven bits, low first, top bit set on all but the last, shortest
+//! form, at most 64 bits".
 
-/// The number at `at` and the offset past it, or nothing if it is cut, not shortest or over 64 bits.
+/// The number at `at` and the offset past it, or nothing if it is cut, not shortest or over 64
+/// bits.
 pub fn read_tape_number(bytes: &[u8], at: usize) -> Option<(u64, usize)> {
     let mut value: u64 = 0;
     let mut place = at;

@@ -34,7 +34,8 @@ pub fn number_width(value: u64) -> usize {
     }
 }
 
-/// "TLV variable numbers of 1, 3, 5 or 9 bytes, shortest form only": the one at the start of `bytes`.
+/// "TLV variable numbers of 1, 3, 5 or 9 bytes, shortest form only": the one at the start of
+/// `bytes`.
 pub fn read_number(bytes: &[u8]) -> Option<Number> {
     let first = *bytes.first()?;
     let width = match first {

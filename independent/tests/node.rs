@@ -56,7 +56,8 @@ fn small_buffer() {
     assert_eq!(small, vec![7; LEAST_BUFFER - 1]);
 }
 
-/// "Number not 1..16; or not open, unless the event opens it"; 3 before anything of the event's own.
+/// "Number not 1..16; or not open, unless the event opens it"; 3 before anything of the event's
+/// own.
 #[test]
 fn bad_face() {
     let mut b = Bench::plain(2);
@@ -97,7 +98,8 @@ fn expiry() {
     assert_eq!(b.counts(1), [1, 0, 0, 1, 0, 0, 0]);
 }
 
-/// "One with lifetime 0 counts as live and open through its own event, and ends at the next ageing."
+/// "One with lifetime 0 counts as live and open through its own event, and ends at the next
+/// ageing."
 #[test]
 fn lifetime_zero() {
     let mut b = Bench::plain(2);
@@ -109,7 +111,8 @@ fn lifetime_zero() {
     assert_eq!(b.counts(1), [1, 0, 0, 1, 0, 0, 0]);
 }
 
-/// A request that expires in the event that repeats it: one expiry, then a dead line made now (LOOP).
+/// A request that expires in the event that repeats it: one expiry, then a dead line made now
+/// (LOOP).
 #[test]
 fn expiry_in_the_repeating_event() {
     let mut b = Bench::plain(2);
@@ -218,7 +221,8 @@ fn scope() {
     assert_eq!(b.nack(0, 4, 150, &request), quiet(13));
 }
 
-/// "Local for /localhop unless a live request of the entry, this one included, is from a local face."
+/// "Local for /localhop unless a live request of the entry, this one included, is from a local
+/// face."
 #[test]
 fn localhop() {
     let mut b = Bench::plain(3);
@@ -283,7 +287,8 @@ fn dead_list_beats_retransmission() {
     assert_eq!(b.counts(1), [1, 0, 0, 0, 0, 0, 1]);
 }
 
-/// An entry of other flags is not looked at; the dead list knows no flags; LOOP comes before the store.
+/// An entry of other flags is not looked at; the dead list knows no flags; LOOP comes before the
+/// store.
 #[test]
 fn loop_and_flags() {
     let mut b = Bench::plain(3);
@@ -309,7 +314,8 @@ fn refusals_nack_ends_nothing() {
 
 // ---- sending ----
 
-/// "NO_ROUTE exactly when there is none or no next hop of it is eligible"; no shorter route stands in.
+/// "NO_ROUTE exactly when there is none or no next hop of it is eligible"; no shorter route stands
+/// in.
 #[test]
 fn no_route() {
     let mut b = Bench::plain(2);
@@ -321,6 +327,19 @@ fn no_route() {
     assert_eq!(b.ask(0, 1, &req("/x", 1)), refuses(10, 1));
     b.open(0, 3, FAR, MULTI);
     assert_eq!(b.ask(0, 3, &req("/x", 1)), quiet(10));
+}
+
+/// Outside vector: /AA/BB is under route /AA, not under /A.
+#[test]
+fn routes_match_by_components() {
+    let mut b = Bench::plain(2);
+    b.drop_route(0, "");
+    b.route(0, 1, "/A");
+    b.hop(0, 2, 0, "/A");
+    assert_eq!(b.ask(0, 1, &req("/AA/BB", 1)), refuses(10, 1));
+    b.route(0, 1, "/AA");
+    b.hop(0, 2, 0, "/AA");
+    assert_eq!(b.ask(0, 1, &req("/AA/BB", 1)), asks(2));
 }
 
 /// "The cheapest eligible hop, ties to the lower face."
@@ -349,7 +368,8 @@ fn back_out_of_an_ad_hoc_face() {
     assert_eq!(b.counts(1), [1, 1, 0, 0, 0, 0, 0]);
 }
 
-/// "If the newest out-record was sent under 100 ms ago, send nothing", then unused hops, then the earliest.
+/// "If the newest out-record was sent under 100 ms ago, send nothing", then unused hops, then the
+/// earliest.
 #[test]
 fn retransmission_goes_round() {
     let mut b = Bench::plain(4);
@@ -408,7 +428,8 @@ fn sends_to_an_asking_face() {
     assert_eq!(b.ask(200, 2, &req("/a", 2)), asks(1));
 }
 
-/// "The Interest leaves as it came without its Lp header, HopLimit one lower": the bytes that just came.
+/// "The Interest leaves as it came without its Lp header, HopLimit one lower": the bytes that just
+/// came.
 #[test]
 fn interest_leaves_as_it_came() {
     let mut b = Bench::plain(2);
@@ -529,7 +550,8 @@ fn unsolicited() {
     assert_eq!(b.ask(10, 1, &fresh("/a/b", 2)), asks(2), "the stored one was not refreshed");
 }
 
-/// MustBeFresh is not asked of Data that arrives; in the store "only while now < storing time + freshness".
+/// MustBeFresh is not asked of Data that arrives; in the store "only while now < storing time +
+/// freshness".
 #[test]
 fn freshness() {
     let mut b = Bench::plain(2);
@@ -540,7 +562,8 @@ fn freshness() {
     assert_eq!(b.ask(150, 1, &req("/a", 4)), gives(&[1]));
 }
 
-/// A hit needs no route, opens nothing, goes to any link type, and gives the bytes without Lp header.
+/// A hit needs no route, opens nothing, goes to any link type, and gives the bytes without Lp
+/// header.
 #[test]
 fn store_hit() {
     let mut b = Bench::plain(2);
@@ -555,7 +578,8 @@ fn store_hit() {
     assert_eq!(b.counts(3), [0; 7]);
 }
 
-/// "With CanBePrefix also any name extending it"; "the first in canonical order", of the fresh ones.
+/// "With CanBePrefix also any name extending it"; "the first in canonical order", of the fresh
+/// ones.
 #[test]
 fn store_order() {
     let mut b = Bench::plain(2);
@@ -577,7 +601,8 @@ fn store_order() {
     assert_eq!(named(5, both, "/a"), name("/a/c"));
 }
 
-/// "When full, evicts the least recently stored or hit"; an equal name is replaced and is most recent.
+/// "When full, evicts the least recently stored or hit"; an equal name is replaced and is most
+/// recent.
 #[test]
 fn eviction() {
     let mut b = Bench::plain(2);
@@ -625,7 +650,8 @@ fn data_buries() {
 
 // ---- Nack ----
 
-/// "STALE_NACK exactly when the face is not point-to-point, or has no out-record with this nonce in that entry."
+/// "STALE_NACK exactly when the face is not point-to-point, or has no out-record with this nonce in
+/// that entry."
 #[test]
 fn stale_nack() {
     let mut b = Bench::plain(3);
@@ -642,7 +668,8 @@ fn stale_nack() {
     assert_eq!(b.nack(0, 3, 150, &req("/a", 1)), quiet(13));
 }
 
-/// "If a Nack leaves all out-records Nacked, each point-to-point request ends by a Nack with its own nonce and the smallest nonzero reason."
+/// "If a Nack leaves all out-records Nacked, each point-to-point request ends by a Nack with its
+/// own nonce and the smallest nonzero reason."
 #[test]
 fn nacks_end_requests() {
     let mut b = Bench::plain(4);
@@ -658,7 +685,8 @@ fn nacks_end_requests() {
     assert_eq!(b.ask(130, 1, &req("/a", 2)).0, 9, "the nonces are dead");
 }
 
-/// "Reasons other than 50, 100, 150 become 0, still Nacked"; a zero gives way to any nonzero reason.
+/// "Reasons other than 50, 100, 150 become 0, still Nacked"; a zero gives way to any nonzero
+/// reason.
 #[test]
 fn reasons() {
     for (first, second, expected) in
@@ -758,7 +786,8 @@ fn closing() {
     assert_eq!(b.ask(30, 2, &req("/c", 1)).0, 0);
 }
 
-/// "The face's out-record goes, its fingerprint joining the dead list", before the entry's other ones.
+/// "The face's out-record goes, its fingerprint joining the dead list", before the entry's other
+/// ones.
 #[test]
 fn closing_order_in_the_ring() {
     let mut b = Bench::plain(5);

@@ -142,30 +142,47 @@ fn name_grammar() {
     }
 }
 
-/// LpPackets: Nack, Fragment, skipped ones and 6, in the order the settled readings give.
+/// A NackReason of 150 in a Nack, and an Lp element that is skipped.
+const NACK_150: &str = "FD 03 20 05 FD 03 21 01 96";
+const SKIPPED: &str = "FD 03 40 01 07";
+
+/// LpPackets with a Nack: what it may hold, how often, over what, and without a Fragment.
 #[test]
-fn lp_grammar() {
+fn lp_nack_grammar() {
     let i = hex(I);
-    let d = data(SIGNED);
     let marked = interest("0A 04 01 02 03 04 24 00");
-    let skipped = "FD 03 40 01 07";
-    let nack = "FD 03 20 05 FD 03 21 01 96";
+    let twice = format!("{NACK_150} {NACK_150}");
     let rows: Vec<(Vec<u8>, u8)> = vec![
-        (lp("", &i, ""), 0),
-        (lp("", &d, ""), 0),
-        (lp(skipped, &d, ""), 0),
-        (lp(nack, &i, ""), 0),
-        (lp(&format!("{skipped} {nack} {skipped} {skipped}"), &i, ""), 0),
+        (lp(NACK_150, &i, ""), 0),
+        (lp(&format!("{SKIPPED} {NACK_150} {SKIPPED} {SKIPPED}"), &i, ""), 0),
         (lp("FD 03 20 00", &i, ""), 0),
-        (lp(nack, &d, ""), 5),
-        (lp(nack, &marked, ""), 6),
-        (lp(&format!("{nack} {nack}"), &i, ""), 5),
+        (lp(NACK_150, &data(SIGNED), ""), 5),
+        (lp(NACK_150, &marked, ""), 6),
+        (lp(&twice, &i, ""), 5),
         (lp("FD 03 20 09 FD 03 21 01 96 FD 03 40 00", &i, ""), 5),
         (lp("FD 03 20 0A FD 03 21 01 96 FD 03 21 01 96", &i, ""), 5),
         (lp("FD 03 20 02 20 00", &i, ""), 5),
         (lp("FD 03 20 04 FD 03 21 00", &i, ""), 5),
         (lp("FD 03 20 07 FD 03 21 03 00 00 96", &i, ""), 5),
         (lp("FD 03 21 01 96", &i, ""), 6),
+        (element(0x64, &hex(NACK_150)), 6),
+        (element(0x64, &hex(&twice)), 5),
+        (element(0x64, &hex("FD 03 20 04 FD 03 21 00")), 5),
+    ];
+    for (bytes, expected) in rows {
+        assert_eq!(answer(&bytes), expected, "{bytes:02x?}");
+    }
+}
+
+/// LpPackets without a Nack: what is skipped, what is 6, what the Fragment holds and what follows
+/// it.
+#[test]
+fn lp_grammar() {
+    let i = hex(I);
+    let rows: Vec<(Vec<u8>, u8)> = vec![
+        (lp("", &i, ""), 0),
+        (lp("", &data(SIGNED), ""), 0),
+        (lp(SKIPPED, &data(SIGNED), ""), 0),
         (lp("51 01 00", &i, ""), 6),
         (lp("FD 03 1F 00", &i, ""), 6),
         (lp("FD 03 C0 00", &i, ""), 6),
@@ -173,7 +190,7 @@ fn lp_grammar() {
         (lp("FD 03 22 00", &i, ""), 6),
         (lp("00 00", &i, ""), 5),
         (lp("FF 00 00 00 01 00 00 00 00 00", &i, ""), 5),
-        (lp("", &i, skipped), 5),
+        (lp("", &i, SKIPPED), 5),
         (lp("", &i, "51 00"), 5),
         (lp("", &i, "50 00"), 5),
         (lp("51 00", &i[..5], ""), 5),
@@ -181,10 +198,7 @@ fn lp_grammar() {
         (lp("", &lp("", &i, ""), ""), 5),
         (lp("", &[&i[..], &i[..]].concat(), ""), 5),
         (hex("64 00"), 6),
-        (element(0x64, &hex(nack)), 6),
-        (element(0x64, &hex(&format!("{nack} {nack}"))), 5),
-        (element(0x64, &hex("FD 03 20 04 FD 03 21 00")), 5),
-        (element(0x64, &hex(skipped)), 6),
+        (element(0x64, &hex(SKIPPED)), 6),
     ];
     for (bytes, expected) in rows {
         assert_eq!(answer(&bytes), expected, "{bytes:02x?}");
@@ -284,7 +298,8 @@ fn check_leaving(packet: &Packet, interest: &Interest) {
     assert_eq!(again.hop_limit.map(|hop| hop.value), lowered);
 }
 
-/// Over generated packets: what is written or leaves reads back, and the bare packet lies in the input.
+/// Over generated packets: what is written or leaves reads back, and the bare packet lies in the
+/// input.
 #[test]
 fn generated_packets_read_back() {
     for seed in 0..SEEDS {
@@ -372,7 +387,8 @@ fn generated_packets_reach_everything() {
     check_rows(&reached);
 }
 
-/// Every row is accepted; every rule that can be broken is broken: length, and order where there is one.
+/// Every row is accepted; every rule that can be broken is broken: length, and order where there is
+/// one.
 fn check_rows(reached: &Reached) {
     for (at, row) in TABLE.iter().enumerate() {
         let choice = matches!(row.parent, Parent::Input | Parent::Fragment);

@@ -32,7 +32,8 @@ fn sample_tape() {
     assert_eq!(run(&sample()), expected);
 }
 
-/// "An unreadable event prints `bad` and the offset of its first byte, from 0, then the total, and ends the run."
+/// "An unreadable event prints `bad` and the offset of its first byte, from 0, then the total, and
+/// ends the run."
 #[test]
 fn unreadable_events() {
     let total = "total 1 0 0 1 0 0 0\n";
@@ -151,51 +152,65 @@ fn all_tapes() -> &'static [Vec<u8>] {
     })
 }
 
-/// The modes together reach every answer but 2, every kind of send and every kind of end.
-#[test]
-fn modes_reach_everything() {
-    let mut answers: BTreeMap<Answer, usize> = BTreeMap::new();
-    let mut whats: BTreeMap<What, usize> = BTreeMap::new();
-    let mut kinds: BTreeMap<Kind, usize> = BTreeMap::new();
-    let mut reasons: BTreeSet<u64> = BTreeSet::new();
-    let mut full = [0; 3];
-    let mut most_dead_lines = 0;
-    over_all_tapes(|_, _, outcome, node, buffer| {
-        *answers.entry(outcome.answer).or_default() += 1;
+/// What generated tapes reach.
+#[derive(Default)]
+struct Reached {
+    answers: BTreeMap<u8, usize>,
+    whats: BTreeMap<What, usize>,
+    kinds: BTreeMap<Kind, usize>,
+    reasons: BTreeSet<u64>,
+    full_classes: BTreeSet<Class>,
+    most_dead_lines: usize,
+}
+
+impl Reached {
+    /// Counts one event.
+    fn count(&mut self, outcome: &Outcome, node: &Node, buffer: &[u8]) {
+        *self.answers.entry(outcome.answer.number()).or_default() += 1;
         for happening in &outcome.happenings {
-            *whats.entry(happening.what).or_default() += 1;
+            *self.whats.entry(happening.what).or_default() += 1;
         }
         for send in &outcome.sends {
-            *kinds.entry(send.kind).or_default() += 1;
+            *self.kinds.entry(send.kind).or_default() += 1;
             let bytes = &buffer[send.at..send.at + send.length];
             if let Meaning::Nack { reason, .. } = read(bytes).unwrap().meaning {
-                reasons.insert(reason);
+                self.reasons.insert(reason);
             }
         }
         if outcome.answer == Answer::NoRoom {
-            for class in CLASSES {
-                let limit = PENDING - (48 - class.reserve());
-                full[class as usize - 1] += usize::from(node.pending().used(class) == limit);
-            }
+            let reserves: usize = CLASSES.into_iter().map(Class::reserve).sum();
+            let most = |class: Class| PENDING - (reserves - class.reserve());
+            let full = CLASSES.into_iter().filter(|&c| node.pending().used(c) == most(c));
+            self.full_classes.extend(full);
         }
-        most_dead_lines = most_dead_lines.max(node.dead_lines());
-    });
-    for number in (0..=16).filter(|&number| number != 2) {
-        let times = answers.iter().find(|(answer, _)| answer.number() == number);
-        assert!(times.is_some_and(|(_, &times)| times >= 5), "answer {number}: {times:?}");
+        self.most_dead_lines = self.most_dead_lines.max(node.dead_lines());
     }
-    for what in
-        [What::Opened, What::Answered, What::Nacked, What::Expired, What::Closed, What::SelfMet]
-    {
-        assert!(whats.get(&what).is_some_and(|&times| times >= 50), "{what:?}");
-    }
-    assert!([Kind::Interest, Kind::Data, Kind::Nack].iter().all(|kind| kinds[kind] >= 100));
-    assert_eq!(reasons, BTreeSet::from([0, 50, 100, 150]));
-    assert!(full.iter().all(|&times| times > 0), "each class full by itself: {full:?}");
-    assert_eq!(most_dead_lines, DEAD_NONCES);
 }
 
-/// Demand 3: after every event, for every face, opened = answered + Nacked + expired + closed + self-met + open now.
+/// The modes together reach every answer but 2, every kind of send, every reason and every kind of
+/// end.
+#[test]
+fn modes_reach_everything() {
+    let mut reached = Reached::default();
+    over_all_tapes(|_, _, outcome, node, buffer| reached.count(outcome, node, buffer));
+    for number in (0..=16).filter(|&number| number != 2) {
+        let times = reached.answers.get(&number).copied().unwrap_or(0);
+        assert!(times >= 5, "answer {number}: {times} times");
+    }
+    let ends = [What::Answered, What::Nacked, What::Expired, What::Closed, What::SelfMet];
+    for what in ends {
+        let times = reached.whats.get(&what).copied().unwrap_or(0);
+        assert!(times >= 50, "{what:?}: {times} times");
+    }
+    let kinds = [Kind::Interest, Kind::Data, Kind::Nack];
+    assert!(kinds.iter().all(|kind| reached.kinds[kind] >= 100));
+    assert_eq!(reached.reasons, BTreeSet::from([0, 50, 100, 150]));
+    assert_eq!(reached.full_classes, BTreeSet::from(CLASSES));
+    assert_eq!(reached.most_dead_lines, DEAD_NONCES);
+}
+
+/// Demand 3: after every event, for every face, opened = answered + Nacked + expired + closed +
+/// self-met + open now.
 #[test]
 fn every_request_is_accounted_for() {
     let mut tally = Tally::default();
@@ -233,7 +248,8 @@ fn no_request_ends_twice() {
     });
 }
 
-/// "A Data leaves on a face only to serve the Interest just received there from the cache, or to end at least one matching, unexpired request of that face", and once.
+/// "A Data leaves on a face only to serve the Interest just received there from the cache, or to
+/// end at least one matching, unexpired request of that face", and once.
 #[test]
 fn data_leaves_for_a_reason() {
     over_all_tapes(|before, event, outcome, _, buffer| {
@@ -263,7 +279,8 @@ fn data_leaves_for_a_reason() {
     });
 }
 
-/// Sends are packed from the start in ascending face order, each reads back to its kind, the rest is untouched.
+/// Sends are packed from the start in ascending face order, each reads back to its kind, the rest
+/// is untouched.
 #[test]
 fn sends_are_packed() {
     over_all_tapes(|_, _, outcome, _, buffer| {
@@ -284,7 +301,8 @@ fn sends_are_packed() {
     });
 }
 
-/// "Answers 1 to 3 change nothing. Every other answer first moves the last time and ages the tables; a refusal changes nothing more."
+/// "Answers 1 to 3 change nothing. Every other answer first moves the last time and ages the
+/// tables; a refusal changes nothing more."
 #[test]
 fn refusals_only_age() {
     over_all_tapes(|before, event, outcome, node, _| {
@@ -303,7 +321,8 @@ fn refusals_only_age() {
     });
 }
 
-/// Which sends go with which refusal: Nack 100, 150 or 50 to a point-to-point arrival face, else none.
+/// Which sends go with which refusal: Nack 100, 150 or 50 to a point-to-point arrival face, else
+/// none.
 #[test]
 fn refusals_send_their_nack_only() {
     over_all_tapes(|before, event, outcome, _, buffer| {
@@ -331,7 +350,8 @@ fn refusals_send_their_nack_only() {
     });
 }
 
-/// The tables keep their sizes, and no class holds more than 64 less the other reserves: 40, 32 and 24.
+/// The tables keep their sizes, and no class holds more than 64 less the other reserves: 40, 32 and
+/// 24.
 #[test]
 fn tables_keep_their_sizes() {
     over_all_tapes(|_, _, _, node, _| {

@@ -29,7 +29,8 @@ impl Class {
     }
 }
 
-/// "The sum over the classes of the larger of reserve and use", where `used` gives each class's use.
+/// "The sum over the classes of the larger of reserve and use", where `used` gives each class's
+/// use.
 pub fn claimed(used: impl Fn(Class) -> usize) -> usize {
     CLASSES.into_iter().map(|class| class.reserve().max(used(class))).sum()
 }

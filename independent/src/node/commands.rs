@@ -24,7 +24,9 @@ impl Node {
         }
     }
 
-    /// "Closing goes by entry, oldest opening first: the face's out-record goes, its fingerprint joining the dead list; its request ends; an entry without requests leaves. Its next hops go too."
+    /// "Closing goes by entry, oldest opening first: the face's out-record goes, its fingerprint
+    /// joining the dead list; its request ends; an entry without requests leaves. Its next hops go
+    /// too."
     pub(super) fn on_close(&mut self, face: FaceNumber, turn: &mut Turn) -> Answer {
         let now = self.last_time;
         for mut entry in std::mem::take(&mut self.pending.entries) {

@@ -20,7 +20,8 @@ pub struct DeadNonces {
 }
 
 impl DeadNonces {
-    /// A fingerprint "joins the dead nonce list with the time now; the 257th overwrites the oldest".
+    /// A fingerprint "joins the dead nonce list with the time now; the 257th overwrites the
+    /// oldest".
     pub fn join(&mut self, fingerprint: u64, time: u64) {
         if self.lines.len() == DEAD_NONCES {
             self.lines.pop_front();

@@ -44,7 +44,8 @@ impl Node {
         }
     }
 
-    /// LOOP: "a live fingerprint equals this one; or the entry has the nonce [...]. The entry does not count if the face is point-to-point and its own in-record has this nonce."
+    /// LOOP: "a live fingerprint equals this one; or the entry has the nonce [...]. The entry does
+    /// not count if the face is point-to-point and its own in-record has this nonce."
     fn is_loop(&self, face: FaceNumber, interest: &Interest) -> bool {
         let line = fingerprint(self.fingerprint_start, interest.name, &interest.nonce);
         if self.dead.has_live(line, self.last_time) {
@@ -65,7 +66,8 @@ impl Node {
         }
     }
 
-    /// "No entry: look in the store [...]. Otherwise take the longest matching route. [...] Then NO_ROOM. Else open."
+    /// "No entry: look in the store [...]. Otherwise take the longest matching route. [...] Then
+    /// NO_ROOM. Else open."
     fn without_entry(
         &mut self,
         face: FaceNumber,
@@ -126,7 +128,8 @@ impl Node {
         }
     }
 
-    /// "Open this face's request, or renew it with the new nonce and expiry (a renewal is the same request)."
+    /// "Open this face's request, or renew it with the new nonce and expiry (a renewal is the same
+    /// request)."
     fn take_request(
         &self,
         entry: &mut Entry,
@@ -154,7 +157,9 @@ impl Node {
         entry.record_send(hop, interest.nonce, self.last_time);
     }
 
-    /// "In the longest matching route, use the cheapest eligible hop without an out-record; failing that, the eligible hop with the earliest one, ties to the lower face; failing that, nothing."
+    /// "In the longest matching route, use the cheapest eligible hop without an out-record; failing
+    /// that, the eligible hop with the earliest one, ties to the lower face; failing that,
+    /// nothing."
     fn hop_for_present(
         &self,
         entry: &Entry,
@@ -168,7 +173,9 @@ impl Node {
         unused.or_else(|| earliest_used(route, entry, eligible))
     }
 
-    /// "Eligible: not the arrival face, unless ad hoc; local if HopLimit is present and is 0 after lowering; local for /localhost; local for /localhop unless a live request of the entry, this one included, is from a local face."
+    /// "Eligible: not the arrival face, unless ad hoc; local if HopLimit is present and is 0 after
+    /// lowering; local for /localhost; local for /localhop unless a live request of the entry, this
+    /// one included, is from a local face."
     fn is_eligible(
         &self,
         hop: FaceNumber,

@@ -195,7 +195,8 @@ impl Node {
         }
     }
 
-    /// "The fingerprint of its name with each out-record's nonce, by face, joins the dead nonce list with the time now."
+    /// "The fingerprint of its name with each out-record's nonce, by face, joins the dead nonce
+    /// list with the time now."
     fn bury(&mut self, entry: &Entry) {
         for record in entry.outs.values() {
             let line = fingerprint(self.fingerprint_start, &entry.name, &record.nonce);

@@ -43,7 +43,8 @@ impl Node {
         Answer::Done
     }
 
-    /// "STALE_NACK exactly when the face is not point-to-point, or has no out-record with this nonce in that entry."
+    /// "STALE_NACK exactly when the face is not point-to-point, or has no out-record with this
+    /// nonce in that entry."
     fn nacked_entry(&self, arrival: FaceNumber, interest: &Interest) -> Option<Entry> {
         let entry = self.pending.find(interest)?;
         let asked = entry.outs.get(&arrival).is_some_and(|record| record.nonce == interest.nonce);

@@ -33,7 +33,8 @@ pub struct Routes {
 }
 
 impl Routes {
-    /// "Setting a route gives a prefix (empty allowed) and class; for a known prefix the hops stay."
+    /// "Setting a route gives a prefix (empty allowed) and class; for a known prefix the hops
+    /// stay."
     pub fn set(&mut self, prefix: &[u8], class: Class) -> Result<(), Full> {
         if let Some(route) = self.find(prefix) {
             route.class = class;
@@ -53,7 +54,8 @@ impl Routes {
         self.routes.len() < before
     }
 
-    /// Adds a hop to a prefix's route; false if the route is absent. "Adding a known hop changes its cost."
+    /// Adds a hop to a prefix's route; false if the route is absent. "Adding a known hop changes
+    /// its cost."
     pub fn add_hop(&mut self, prefix: &[u8], face: FaceNumber, cost: u64) -> bool {
         match self.find(prefix) {
             Some(route) => {
@@ -64,7 +66,8 @@ impl Routes {
         }
     }
 
-    /// Drops a hop; false if the route or the hop is absent. "A route without hops stays, class and all."
+    /// Drops a hop; false if the route or the hop is absent. "A route without hops stays, class and
+    /// all."
     pub fn drop_hop(&mut self, prefix: &[u8], face: FaceNumber) -> bool {
         self.find(prefix).is_some_and(|route| route.hops.remove(&face).is_some())
     }

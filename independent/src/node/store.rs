@@ -27,7 +27,8 @@ pub struct Store {
 }
 
 impl Stored {
-    /// "An equal name, with CanBePrefix also any name extending it, and with MustBeFresh only while now < storing time + freshness."
+    /// "An equal name, with CanBePrefix also any name extending it, and with MustBeFresh only while
+    /// now < storing time + freshness."
     fn may_serve(&self, wanted: &Wanted, now: u64) -> bool {
         let named = if wanted.can_be_prefix {
             is_prefix(wanted.name, &self.name)
@@ -39,7 +40,8 @@ impl Stored {
 }
 
 impl Store {
-    /// "The store replaces an equal name, else, when full, evicts the least recently stored or hit."
+    /// "The store replaces an equal name, else, when full, evicts the least recently stored or
+    /// hit."
     pub fn put(&mut self, name: &[u8], bytes: &[u8], stored_at: u64, freshness: u64) {
         let equal = self.by_use.iter().position(|stored| is_same(&stored.name, name));
         match equal {

@@ -40,7 +40,8 @@ impl<'b> Turn<'b> {
         self.send_to_all(&[face], kind, packet);
     }
 
-    /// "Packed from the buffer's start in ascending face order; a Data is written once for all its faces."
+    /// "Packed from the buffer's start in ascending face order; a Data is written once for all its
+    /// faces."
     pub fn send_to_all(&mut self, faces: &[FaceNumber], kind: Kind, packet: &[u8]) {
         if faces.is_empty() {
             return;

@@ -157,7 +157,8 @@ pub fn check_prefix(prefix: &[u8]) -> Result<(), Refusal> {
 }
 
 impl Reading<'_> {
-    /// "An outer type other than 0x05, 0x06 or 0x64 is 5"; nothing is given back without a Fragment.
+    /// "An outer type other than 0x05, 0x06 or 0x64 is 5"; nothing is given back without a
+    /// Fragment.
     fn input<'a>(&mut self, input: &'a [u8]) -> Result<Option<Packet<'a>>, Malformed> {
         let outer = self.only_element(Parent::Input, input)?;
         if outer.kind != LP_PACKET {
@@ -193,7 +194,8 @@ impl Reading<'_> {
         }
     }
 
-    /// The one element that fills its parent: "each element ends within its parent, the packet at the last byte".
+    /// The one element that fills its parent: "each element ends within its parent, the packet at
+    /// the last byte".
     fn only_element<'a>(
         &mut self,
         parent: Parent,

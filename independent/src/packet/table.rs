@@ -43,7 +43,8 @@ pub enum Absence {
 pub enum Unknown {
     /// "Unknown and critical is 5, unknown and not critical is skipped."
     ByCriticality,
-    /// "Types 800 to 959 divisible by 4 are otherwise skipped; any other type, critical or not, is 6."
+    /// "Types 800 to 959 divisible by 4 are otherwise skipped; any other type, critical or not, is
+    /// 6."
     ByLpRange,
     /// "And nothing else, skippable or not; else 5."
     Malformed,

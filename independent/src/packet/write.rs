@@ -27,7 +27,8 @@ impl<'a> From<&Interest<'a>> for Asked<'a> {
     }
 }
 
-/// "LpPacket with Nack, NackReason (left out for reason 0), and an Interest of Name, the two flags and Nonce only."
+/// "LpPacket with Nack, NackReason (left out for reason 0), and an Interest of Name, the two flags
+/// and Nonce only."
 pub fn write_nack(reason: u64, asked: &Asked) -> Vec<u8> {
     let mut nack = Vec::new();
     if reason != 0 {

@@ -2,6 +2,7 @@
 
 use super::driver::{name, wrapped, Driver, Request};
 use crate::node::Event;
+use crate::sizes::{DEAD_NONCES, FACES};
 
 /// A request whose name is one short component that `number` makes.
 fn numbered(number: u64) -> Request {
@@ -21,7 +22,7 @@ fn one_route(driver: &mut Driver, class: u64) {
 /// More than 256 dead nonces within 6,000 ms, then old and young ones again.
 pub fn dead_nonces(driver: &mut Driver) {
     one_route(driver, 1);
-    let count = 257 + driver.prng.below(40) as u64;
+    let count = (DEAD_NONCES + 1 + driver.prng.below(40)) as u64;
     for number in 0..count {
         let mut request = numbered(number);
         request.lifetime = Some(0);
@@ -52,7 +53,8 @@ pub fn dead_nonces(driver: &mut Driver) {
     }
 }
 
-/// Several entries that leave at once, then just so many others that the ring's end falls among their lines.
+/// Several entries that leave at once, then just so many others that the ring's end falls among
+/// their lines.
 pub fn ring(driver: &mut Driver) {
     for face in 1..=6 {
         driver.open(face, 1, 0);
@@ -71,8 +73,8 @@ pub fn ring(driver: &mut Driver) {
         open_many(driver, round);
         let joining = driver.waiting().len().max(1);
         leave_at_once(driver, both_ways);
-        let overwritten = if driver.prng.one_in(2) { joining } else { joining.min(3) };
-        let fillers = 256 - joining + driver.prng.below(overwritten) + 1;
+        let overwritten = if driver.prng.one_in(3) { joining } else { joining.min(3) };
+        let fillers = DEAD_NONCES - joining + driver.prng.below(overwritten) + 1;
         for number in 0..fillers as u64 {
             let mut filler = Request::new(&[8, 0], 1_000_000 + 1_000 * round + number);
             filler.lifetime = Some(0);
@@ -84,10 +86,11 @@ pub fn ring(driver: &mut Driver) {
     }
 }
 
-/// Opens entries under /p and /p/q with all flags, some with equal nonces, and sends some on twice or thrice.
+/// Opens entries under /p and /p/q with all flags, some with equal nonces, and sends some on twice
+/// or thrice.
 fn open_many(driver: &mut Driver, round: u64) {
     for number in 0..12 {
-        let mut request = Request::new(&name(driver.prng.pick(&["/p", "/p/q", "/p/r"])), 0);
+        let mut request = Request::new(&name(driver.prng.pick(&["/p", "/p/q", "/p/q"])), 0);
         request.nonce = [round as u8, 0, 0, driver.prng.pick(&[number, number, 0])];
         request.can_be_prefix = driver.prng.one_in(2);
         request.must_be_fresh = !driver.prng.one_in(4);
@@ -114,7 +117,8 @@ fn open_many(driver: &mut Driver, round: u64) {
 /// The name of the entry that `ask_both_ways` makes.
 const BOTH_WAYS: &str = "/w";
 
-/// An entry whose only lasting request is of face 4, sent to faces 2, 3 and at last to face 4 itself.
+/// An entry whose only lasting request is of face 4, sent to faces 2, 3 and at last to face 4
+/// itself.
 fn ask_both_ways(driver: &mut Driver, round: u64) {
     let mut request = Request::new(&name(BOTH_WAYS), 0);
     for (number, face) in [(1, 4), (2, 4), (3, 1)] {
@@ -130,8 +134,7 @@ fn leave_at_once(driver: &mut Driver, both_ways: bool) {
     match driver.prng.below(4) {
         _ if both_ways => driver.close(4),
         0 | 1 => {
-            let text = driver.prng.pick(&["/p/q", "/p/r"]);
-            driver.data(2, &name(text), None);
+            driver.data(2, &name("/p/q"), None);
         }
         2 => {
             let face = driver.prng.pick(&[1, 2, 3, 4, 5, 6]);
@@ -190,7 +193,8 @@ pub fn overload(driver: &mut Driver, class: u64) {
     }
 }
 
-/// One event under load: mostly a new request, else an answer, a renewal, a route's new class, or time.
+/// One event under load: mostly a new request, else an answer, a renewal, a route's new class, or
+/// time.
 fn overload_step(driver: &mut Driver, number: u64) {
     let any_class = driver.prng.between(1, 3) as u64;
     match driver.prng.below(14) {
@@ -274,7 +278,7 @@ fn refusals_of_events(driver: &mut Driver, a: &[u8]) {
     driver.put(Event::Tick { time: driver.time - 1 });
     driver.put(Event::Tick { time: (1 << 53) + 1 });
     driver.open(0, 0, 0);
-    driver.open(17, 0, 0);
+    driver.open(FACES as u64 + 1, 0, 0);
     driver.close(9);
     driver.hop(9, 65_536, &[8]);
     driver.open(1, 9, 9);

@@ -181,7 +181,8 @@ fn ask_again(driver: &mut Driver, profile: &Profile, action: Action) {
     driver.ask(face, &request);
 }
 
-/// An Interest that was sent on and the face it left by: mostly one still pending, else one of the last.
+/// An Interest that was sent on and the face it left by: mostly one still pending, else one of the
+/// last.
 fn sent_on(driver: &mut Driver) -> Option<(u64, Request)> {
     let waiting = driver.waiting();
     if !waiting.is_empty() && !driver.prng.one_in(6) {
@@ -248,7 +249,8 @@ fn wrong_nack(driver: &mut Driver, profile: &Profile) {
     driver.nack(face, 150, &request);
 }
 
-/// Time goes to an edge: an expiry, the end of suppression, of freshness, of a dead line, give or take one.
+/// Time goes to an edge: an expiry, the end of suppression, of freshness, of a dead line, give or
+/// take one.
 fn wait_to_change(driver: &mut Driver) {
     let mut edges: Vec<u64> = driver.changes.iter().rev().take(8).copied().collect();
     for entry in &driver.node.pending().entries {

@@ -34,7 +34,8 @@ impl Bench {
         }
     }
 
-    /// Far point-to-point faces 1 to `count`, and a route of class 1 for every name, with a hop to the last.
+    /// Far point-to-point faces 1 to `count`, and a route of class 1 for every name, with a hop to
+    /// the last.
     pub fn plain(count: u64) -> Bench {
         let mut bench = Bench::new();
         for face in 1..=count {
@@ -55,50 +56,62 @@ impl Bench {
         short
     }
 
+    /// A clock reading.
     pub fn tick(&mut self, time: u64) -> u8 {
         self.put(Event::Tick { time }).0
     }
 
+    /// Opens a face.
     pub fn open(&mut self, time: u64, face: u64, scope: u64, link: u64) -> u8 {
         self.put(Event::Open { time, face, scope, link }).0
     }
 
+    /// Closes a face.
     pub fn close(&mut self, time: u64, face: u64) -> u8 {
         self.put(Event::Close { time, face }).0
     }
 
+    /// Sets a route.
     pub fn route(&mut self, time: u64, class: u64, prefix: &str) -> u8 {
         self.put(Event::SetRoute { time, class, prefix: &name(prefix) }).0
     }
 
+    /// Drops a route.
     pub fn drop_route(&mut self, time: u64, prefix: &str) -> u8 {
         self.put(Event::DropRoute { time, prefix: &name(prefix) }).0
     }
 
+    /// Adds a hop.
     pub fn hop(&mut self, time: u64, face: u64, cost: u64, prefix: &str) -> u8 {
         self.put(Event::AddHop { time, face, cost, prefix: &name(prefix) }).0
     }
 
+    /// Drops a hop.
     pub fn drop_hop(&mut self, time: u64, face: u64, prefix: &str) -> u8 {
         self.put(Event::DropHop { time, face, prefix: &name(prefix) }).0
     }
 
+    /// A packet of any bytes.
     pub fn packet(&mut self, time: u64, face: u64, bytes: &[u8]) -> Short {
         self.put(Event::Packet { time, face, bytes })
     }
 
+    /// An Interest.
     pub fn ask(&mut self, time: u64, face: u64, request: &Request) -> Short {
         self.packet(time, face, &request.interest())
     }
 
+    /// A Data without freshness.
     pub fn data(&mut self, time: u64, face: u64, text: &str) -> Short {
         self.fresh(time, face, text, None)
     }
 
+    /// A Data with a freshness.
     pub fn fresh(&mut self, time: u64, face: u64, text: &str, freshness: Option<u64>) -> Short {
         self.packet(time, face, &data(&name(text), freshness, 0))
     }
 
+    /// A Nack.
     pub fn nack(&mut self, time: u64, face: u64, reason: u64, request: &Request) -> Short {
         self.packet(time, face, &write_nack(reason, &request.asked()))
     }
