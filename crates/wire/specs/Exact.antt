@@ -11,18 +11,13 @@ use lib.Dec.{ltb, eqb}
 use borrow.Author.Tests.{ltb-false, eqb-true, eqb-false}
 use native.Mathlib.Omega.{arith}
 use Rattle.laws.specs.Pick.{pick, pick-ind}
+use Rattle.wire.specs.ReadLaws.{big-snoc}
 use Rattle.wire.specs.Number.{big, Got, nothing, got, wide, long, anyNumber, widthOf, number}
 use Rattle.wire.specs.Element.{elem, element, elements, ended}
 use Rattle.wire.specs.Write.{bytesOf, encoded, written}
 use Rattle.wire.specs.Bytes.{Bytes, bytes-cons, bytes-right}
 use Rattle.wire.specs.Within.{number-any, number-width, Parts, element-parts, rest-bytes}
 use Rattle.wire.specs.Walk.{elements-ind, elements-stop, elements-more, ended-rest}
-
--- one byte more at the end
-big-snoc : (a : ℕ) (l : List ℕ) (b : ℕ) → big a (l ++ b ∷ []) ≡ big a l * 256 + b
-unfolding big
-big-snoc a [] b = refl
-big-snoc a (x ∷ l) b = big-snoc (a * 256 + x) l b
 
 -- the number that the first k bytes make, in k bytes
 bytesOf-take : (k : ℕ) (l : List ℕ) → k ≤ length l → Bytes l → bytesOf k (big 0 (take k l)) ≡ take k l

@@ -41,6 +41,11 @@ unfolding big
 big-append a [] l = refl
 big-append a (b ∷ k) l = big-append (a * 256 + b) k l
 
+-- one byte more at the end
+pub big-snoc : (a : ℕ) (l : List ℕ) (b : ℕ) → big a (l ++ b ∷ []) ≡ big a l * 256 + b
+unfolding big
+big-snoc a l b = big-append a l (b ∷ [])
+
 -- two bytes at a place
 pub two-is : (s : List ℕ) (at : ℕ) → at + 2 ≤ length s → getD s at 0 * 256 + getD s (at + 1) 0 ≡ big 0 (take 2 (drop at s))
 unfolding big

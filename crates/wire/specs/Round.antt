@@ -1,6 +1,6 @@
 -- The round trip: what is written is read back, whatever stands after it, and what is written are bytes.
 -- Assumes nothing.
-use Prim.Native.Nat.{ℕ, zero, suc, _+_, _*_, _/_, _%_, _^_, _≤_, _<_}
+use Prim.Native.Nat.{ℕ, zero, suc, _/_, _%_, _^_, _≤_, _<_}
 use mathlib.Core.Path.{_≡_, refl, _∙_}
 use mathlib.Core.Bool.{false}
 use mathlib.Core.List.{List, [], _∷_, _++_, append-assoc}
@@ -10,17 +10,12 @@ use lib.Dec.{ltb}
 use borrow.Author.Tests.{lt-ltb, le-ltb, eq-eqb}
 use native.Mathlib.Omega.{arith}
 use Rattle.laws.specs.Pick.{pick}
+use Rattle.wire.specs.ReadLaws.{big-snoc}
 use Rattle.wire.specs.Number.{big, got, wide, long, anyNumber, widthOf, shortest, number}
 use Rattle.wire.specs.Element.{elem, valued, typed, elementBy, element}
 use Rattle.wire.specs.Write.{bytesOf, encoded, headOf, written}
 use Rattle.wire.specs.Bytes.{Bytes, bytes-nil, bytes-more, bytes-append}
 use Rattle.wire.specs.WriteLaws.{length-bytesOf, encoded-ind}
-
--- a byte more at the end
-big-snoc : (a : ℕ) (l : List ℕ) (b : ℕ) → big a (l ++ b ∷ []) ≡ big a l * 256 + b
-unfolding big
-big-snoc a [] b = refl
-big-snoc a (x ∷ l) b = big-snoc (a * 256 + x) l b
 
 -- k bytes make the number that they were made of, where it is below 256 ^ k
 pub big-bytesOf : (k n : ℕ) → n < 256 ^ k → big 0 (bytesOf k n) ≡ n
