@@ -4,3 +4,4 @@ pub mod Rows
 pub mod Tab
 pub mod Digits
 pub mod Writes
+pub mod Any

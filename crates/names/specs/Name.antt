@@ -5,6 +5,7 @@ use mathlib.Core.Bool.{Bool, true, false, _&&_, _||_}
 use mathlib.Core.List.{List, [], _∷_}
 use lib.ListN.{length, take}
 use lib.Dec.{ltb, eqb}
+use Rattle.laws.specs.Any.{anyOf}
 use Rattle.laws.specs.Pick.{pick}
 use Rattle.wire.specs.Element.{element, onward, Split, atMost, elements, ended}
 use Rattle.names.specs.declared.component.Counted.{Counted}
@@ -23,11 +24,6 @@ unfoldable pub components : List ℕ → Split Component
 unfolding elements
 components l = elements component l
 
--- whether p holds of some element of a list
-unfoldable pub someOf : {A : Type 0} → (A → Bool) → List A → Bool
-someOf p [] = false
-someOf p (a ∷ l) = p a || someOf p l
-
 -- "Component types are 1 to 65,535"
 unfoldable pub tooHigh : Component → Bool
 tooHigh c = ltb 65535 (c .typ)
@@ -41,13 +37,13 @@ marked c = ltb (c .typ) 3
 unfoldable pub judged : Split Component → Counted
 judged p =
     pick (ended p)
-    (pick (someOf tooHigh (p .items)) Counted.Malformed
-    (pick (someOf marked (p .items)) Counted.Unsupported (Counted.Count (length (p .items)))))
+    (pick (anyOf tooHigh (p .items)) Counted.Malformed
+    (pick (anyOf marked (p .items)) Counted.Unsupported (Counted.Count (length (p .items)))))
     Counted.Malformed
 
 -- what a Name's value says
 unfoldable pub counted : List ℕ → Counted
-unfolding pick someOf tooHigh marked judged components ended
+unfolding pick anyOf tooHigh marked judged components ended
 counted l = judged (components l)
 
 -- whether two lists are the same bytes

@@ -18,14 +18,15 @@ use Rattle.wire.specs.Place.{elementAt}
 use Rattle.wire.specs.Within.{read-bad, read-is}
 use Rattle.wire.specs.Walk.{walk-end, walk-bad, walk-more}
 use Rattle.names.specs.declared.component.Counted.{Counted}
-use Rattle.names.specs.Name.{Component, someOf, tooHigh, marked, component, components, counted, sameBytes, firstIs}
+use Rattle.laws.specs.Any.{anyOf}
+use Rattle.names.specs.Name.{Component, tooHigh, marked, component, components, counted, sameBytes, firstIs}
 
 -- what components say behind n others: `judged`, with whether a marked one was met among those, and their count
 unfoldable pub judgedFrom : Bool → ℕ → Split Component → Counted
 judgedFrom met n p =
     pick (ended p)
-    (pick (someOf tooHigh (p .items)) Counted.Malformed
-    (pick (met || someOf marked (p .items)) Counted.Unsupported (Counted.Count (n + length (p .items)))))
+    (pick (anyOf tooHigh (p .items)) Counted.Malformed
+    (pick (met || anyOf marked (p .items)) Counted.Unsupported (Counted.Count (n + length (p .items)))))
     Counted.Malformed
 
 -- from the first component on
@@ -36,7 +37,7 @@ judged-first s = let z : 0 + length (components s .items) ≡ length (components
 module _ (met : Bool) (n : ℕ) (s : List ℕ) (at : ℕ) where
   -- behind the last component
   pub judged-end : length s ≤ at → judgedFrom met n (components (drop at s)) ≡ pick met Counted.Unsupported (Counted.Count n)
-  unfolding components judgedFrom pick ended someOf
+  unfolding components judgedFrom pick ended anyOf
   judged-end h = let z : n + 0 ≡ n = omega arith in rw (walk-end component s at h, or-false met, z)
 
   -- bytes are left that are no component
@@ -47,7 +48,7 @@ module _ (met : Bool) (n : ℕ) (s : List ℕ) (at : ℕ) where
   module _ (e : Element) (c : Cursor) (i : elementAt s at ≡ Read.Is e c) where
     -- a component whose type is too high
     pub judged-high : 65535 < e .typ → judgedFrom met n (components (drop at s)) ≡ Counted.Malformed
-    unfolding components judgedFrom someOf tooHigh ended pick
+    unfolding components judgedFrom anyOf tooHigh ended pick
     judged-high h =
         rw (walk-more component s at e c i, lt-ltb 65535 (e .typ) h)
         (pick-ind (λ r. r ≡ Counted.Malformed) (ended (components (drop (c .at) s))) Counted.Malformed Counted.Malformed (λ q. refl) (λ q. refl))
@@ -55,11 +56,11 @@ module _ (met : Bool) (n : ℕ) (s : List ℕ) (at : ℕ) where
     -- any other component is noted and counted
     pub judged-more : e .typ ≤ 65535
         → judgedFrom met n (components (drop at s)) ≡ judgedFrom (met || ltb (e .typ) 3) (n + 1) (components (drop (c .at) s))
-    unfolding components judgedFrom someOf tooHigh marked ended
+    unfolding components judgedFrom anyOf tooHigh marked ended
     judged-more h =
         let p : Split Component = components (drop (c .at) s) in
         let z : n + suc (length (p .items)) ≡ n + 1 + length (p .items) = omega arith in
-        rw (walk-more component s at e c i, le-ltb 65535 (e .typ) h, ← or-assoc met (ltb (e .typ) 3) (someOf marked (p .items)), z)
+        rw (walk-more component s at e c i, le-ltb 65535 (e .typ) h, ← or-assoc met (ltb (e .typ) 3) (anyOf marked (p .items)), z)
 
 module _ (w s : List ℕ) where
   -- no component is no word
