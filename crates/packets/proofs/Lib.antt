@@ -1,0 +1,2 @@
+pub mod UniqueHeader
+pub mod UniqueBare

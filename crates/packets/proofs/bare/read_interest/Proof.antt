@@ -1,0 +1,78 @@
+-- The tests of the places are those of the fields that the walk found.
+use borrow.Author.Needs.{needs}
+use borrow.Author.Tests.{lt-ltb, le-ltb, le-leb, lt-leb, eq-eqb, ne-eqb}
+use Rattle.packets.specs.BareLaws.{IsFound, found-said, found-missing}
+use Rattle.packets.specs.Bare.{interestRead, packetIn}
+use Rattle.laws.specs.Pick.{pick}
+use Rattle.grammar.specs.Table.{interest}
+use Rattle.packets.proofs.bare.read_interest.Statement.{statement}
+use Rattle.packets.proofs.bare.read_interest.Tie as tie
+
+ruleset tests = (lt-ltb, le-ltb, le-leb, lt-leb, eq-eqb, ne-eqb)
+
+walk-requires : tie.Need-walk-requires
+walk-requires c κs = search needs
+
+element-copy-out-name : tie.Need-element-copy-out-name
+element-copy-out-name c = search needs
+
+element-copy-out-nonce : tie.Need-element-copy-out-nonce
+element-copy-out-nonce c = search needs
+
+returns : tie.Need-returns
+unfolding interestRead packetIn pick
+returns c =
+    let w = c .before .before .before in
+    let s = w .before .before in
+    let h : IsFound interest (s .args .v .now) (s .args .base) (w .walk .result) = record { found = w .walk .ensures; fits = s .pre } in
+    rw (found-said h) (search (needs, tests))
+
+returns-2 : tie.Need-returns-2
+unfolding interestRead packetIn pick
+returns-2 c =
+    let w = c .before .before .before .before .before in
+    let s = w .before .before in
+    let h : IsFound interest (s .args .v .now) (s .args .base) (w .walk .result) = record { found = w .walk .ensures; fits = s .pre } in
+    rw (found-said h, found-missing h 1) (search (needs, tests))
+
+returns-3 : tie.Need-returns-3
+unfolding interestRead packetIn pick
+returns-3 c =
+    let w = c .before .before .before .before .before .before .before in
+    let s = w .before .before in
+    let h : IsFound interest (s .args .v .now) (s .args .base) (w .walk .result) = record { found = w .walk .ensures; fits = s .pre } in
+    rw (found-said h, found-missing h 1, found-missing h 5) (search (needs, tests))
+
+named-interest-requires : tie.Need-named-interest-requires
+named-interest-requires c κs =
+    let w = c .before .before .before .before .before .before .before in
+    record { found = w .walk .ensures; fits = w .before .before .pre }
+
+returns-4 : tie.Need-returns-4
+unfolding interestRead packetIn pick
+returns-4 c =
+    let w = c .before .before .before .before .before .before .before .before in
+    let s = w .before .before in
+    let h : IsFound interest (s .args .v .now) (s .args .base) (w .walk .result) = record { found = w .walk .ensures; fits = s .pre } in
+    rw (
+      c .named-interest .ensures,
+      found-said h,
+      ne-eqb _ _ (c .before .before .before .before .before .if1 .left),
+      found-missing h 1,
+      ne-eqb _ _ (c .before .before .before .if2 .left),
+      found-missing h 5,
+      ne-eqb _ _ (c .before .if3 .left),
+    )
+
+pub read-interest-spec : {M : Type 1} → statement M
+read-interest-spec =
+    tie.close
+    (tie.spec
+    walk-requires
+    element-copy-out-name
+    element-copy-out-nonce
+    returns
+    returns-2
+    returns-3
+    named-interest-requires
+    returns-4)

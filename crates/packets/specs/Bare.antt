@@ -1,0 +1,127 @@
+-- Document 01, "Reading packets": the bare Interest or Data, over a list of bytes.
+-- Assumes nothing.
+use Prim.Native.Nat.{ℕ, _-_}
+use mathlib.Core.Bool.{Bool, true, false}
+use mathlib.Core.List.{List, []}
+use lib.ListN.{length}
+use lib.Dec.{ltb, eqb}
+use Rattle.laws.specs.Pick.{pick}
+use Rattle.wire.specs.Element.{element, onward}
+use Rattle.answers.specs.declared.Answer.{Answer}
+use Rattle.names.specs.declared.component.Counted.{Counted}
+use Rattle.names.specs.Name.{counted}
+use Rattle.grammar.specs.declared.Place.{Place}
+use Rattle.grammar.specs.Table.{table, rowOf, interest, dat, meta, fragment}
+use Rattle.grammar.specs.Walk.{Field, absent, here, Fields, walked, placeIn}
+use Rattle.packets.specs.declared.header.Nacked.{Nacked}
+use Rattle.packets.specs.declared.bare.Hop.{Hop}
+use Rattle.packets.specs.declared.bare.Interest.{Interest}
+use Rattle.packets.specs.declared.bare.Data.{Data}
+use Rattle.packets.specs.declared.bare.Packet.{Packet}
+use Rattle.packets.specs.Header.{val, bytesIn, missing, present, wholeNumber}
+
+-- what a bare packet is: a refusal; an Interest's elements; a Data's elements and those of its MetaInfo; or a Nack's reason and Interest
+pub data Reading : Type 0 where
+  refused : Answer → Reading
+  asks : Fields → Reading
+  brings : Fields → Fields → Reading
+  nacks : ℕ → Fields → Reading
+
+-- the Interest itself, or the Nack that brought it
+unfoldable pub askedBy : Nacked → Fields → Reading
+askedBy Nacked.No f = asks f
+askedBy (Nacked.Reason n) f = nacks n f
+
+-- "Name at most 16 components and 255 bytes"
+unfoldable pub sized : List ℕ → ℕ → Reading → Reading
+sized name n r = pick (ltb 255 (length name)) (refused Answer.TooLong) (pick (ltb 16 n) (refused Answer.TooLong) r)
+
+-- an Interest whose elements are there, by what its name says: "one component or more"; 6 in the header, in the Interest or in the
+-- name; then the name's size
+unfoldable pub namedInterest : Nacked → Bool → Fields → Counted → Reading
+namedInterest k m f Counted.Malformed = refused Answer.Malformed
+namedInterest k m f Counted.Unsupported = refused Answer.Unsupported
+namedInterest k m f (Counted.Count n) =
+    pick (eqb n 0) (refused Answer.Malformed)
+    (pick m (refused Answer.Unsupported)
+    (pick (eqb (f .said) 6) (refused Answer.Unsupported) (sized (bytesIn (val f 1)) n (askedBy k f))))
+
+-- an Interest by its elements: Name and Nonce are required
+unfoldable pub interestRead : Nacked → Bool → Fields → Reading
+interestRead k m f =
+    pick (eqb (f .said) 5) (refused Answer.Malformed)
+    (pick (missing (val f 1)) (refused Answer.Malformed)
+    (pick (missing (val f 5)) (refused Answer.Malformed) (namedInterest k m f (counted (bytesIn (val f 1))))))
+
+-- a Data whose elements are there, by what its name says
+unfoldable pub namedData : Bool → Fields → Fields → Counted → Reading
+namedData m f g Counted.Malformed = refused Answer.Malformed
+namedData m f g Counted.Unsupported = refused Answer.Unsupported
+namedData m f g (Counted.Count n) = pick m (refused Answer.Unsupported) (sized (bytesIn (val f 1)) n (brings f g))
+
+-- a Data by its elements and those of its MetaInfo: "Name and the last two are required"
+unfoldable pub dataRead : Bool → Fields → Fields → Reading
+dataRead m f g =
+    pick (eqb (f .said) 5) (refused Answer.Malformed)
+    (pick (missing (val f 1)) (refused Answer.Malformed)
+    (pick (missing (val f 4)) (refused Answer.Malformed)
+    (pick (missing (val f 5)) (refused Answer.Malformed)
+    (pick (eqb (g .said) 5) (refused Answer.Malformed) (namedData m f g (counted (bytesIn (val f 1))))))))
+
+-- a Data's value; without MetaInfo, nothing is found in it
+unfoldable pub dataValue : Bool → List ℕ → Reading
+dataValue m v = dataRead m (walked dat v) (walked meta (bytesIn (val (walked dat v) 2)))
+
+-- "with Nack an Interest; else 5"
+unfoldable pub dataUnless : Nacked → Reading → Reading
+dataUnless Nacked.No r = r
+dataUnless (Nacked.Reason n) r = refused Answer.Malformed
+
+-- the one element of a bare packet, of type t and value v: an Interest, order 1 in a Fragment, or a Data, order 2
+unfoldable pub kindRead : Nacked → Bool → ℕ → List ℕ → Reading
+kindRead k m t v =
+    pick (eqb (rowOf fragment t table .order) 1) (interestRead k m (walked interest v))
+    (pick (eqb (rowOf fragment t table .order) 2) (dataUnless k (dataValue m v)) (refused Answer.Malformed))
+
+-- a bare packet, with the Nack that it came with and whether its header has an element that is 6
+unfoldable pub bareRead : Nacked → Bool → List ℕ → Reading
+unfolding pick onward table rowOf walked counted wholeNumber askedBy sized namedInterest interestRead namedData dataRead dataValue dataUnless kindRead
+bareRead k m l =
+    onward (element l) (refused Answer.Malformed) (λ t v r. pick (ltb 0 (length r)) (refused Answer.Malformed) (kindRead k m t v))
+
+-- a number above the limit counts as the limit
+unfoldable pub capped : ℕ → ℕ → ℕ
+capped m n = pick (ltb m n) m n
+
+-- "An InterestLifetime above 60,000 counts as 60,000, absent as 4,000."
+unfoldable pub lifetimeOf : Field → ℕ
+lifetimeOf absent = 4000
+lifetimeOf (here v k) = capped 60000 (wholeNumber v)
+
+-- "A FreshnessPeriod above 86,400,000 counts as that, absent as 0."
+unfoldable pub freshnessOf : Field → ℕ
+freshnessOf x = capped 86400000 (wholeNumber (bytesIn x))
+
+-- the HopLimit and its place in a packet of n bytes
+unfoldable pub hopIn : ℕ → Field → Hop
+hopIn n absent = Hop.Absent
+hopIn n (here v k) = Hop.Limit (wholeNumber v) (n - k - length v)
+
+-- an Interest with its places in a packet of n bytes
+unfoldable pub interestIn : ℕ → Fields → Interest
+interestIn n f = record {
+  name = placeIn n (val f 1);
+  «can_be_prefix» = present (val f 2);
+  «must_be_fresh» = present (val f 3);
+  nonce = wholeNumber (bytesIn (val f 5));
+  lifetime = lifetimeOf (val f 6);
+  hop = hopIn n (val f 7);
+}
+
+-- a packet with its places in n bytes
+unfoldable pub packetIn : ℕ → Reading → Packet
+unfolding placeIn capped lifetimeOf freshnessOf hopIn interestIn
+packetIn n (refused a) = Packet.Refused a
+packetIn n (asks f) = Packet.Interest (interestIn n f)
+packetIn n (brings f g) = Packet.Data (record { name = placeIn n (val f 1); freshness = freshnessOf (val g 2) })
+packetIn n (nacks r f) = Packet.Nack r (interestIn n f)

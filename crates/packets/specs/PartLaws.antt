@@ -1,0 +1,54 @@
+-- The bytes at a field's place are the field's; and the number that fills an element.
+-- Assumes nothing.
+use Prim.Native.Nat.{ℕ, _+_, _≤_, _<_}
+use mathlib.Core.Path.{_≡_, refl, _∙_}
+use mathlib.Core.Bool.{Bool, true, false}
+use mathlib.Core.List.{List, []}
+use lib.ListN.{length, take, drop}
+use borrow.Author.Tests.{le-leb, lt-leb}
+use Rattle.laws.specs.Pick.{pick}
+use Rattle.wire.specs.declared.read.Whole.{Whole}
+use Rattle.wire.specs.Number.{big}
+use Rattle.wire.specs.Place.{isWhole, wholeOf}
+use Rattle.grammar.specs.declared.Place.{Place}
+use Rattle.grammar.specs.Walk.{Field, absent, here, placeIn}
+use Rattle.grammar.specs.WalkLaws.{FieldIn, place-value, place-inside}
+use Rattle.packets.specs.Header.{bytesIn, partAt, wholeNumber}
+
+module _ (l : List ℕ) (p : Place) where
+  -- the part at a place that lies within l
+  pub part-is : p .at + p .len ≤ length l → partAt l p ≡ take (p .len) (drop (p .at) l)
+  unfolding partAt pick
+  part-is h = rw (le-leb (p .at + p .len) (length l) h)
+
+  -- the part at a place that does not
+  pub part-none : length l < p .at + p .len → partAt l p ≡ []
+  unfolding partAt pick
+  part-none h = rw (lt-leb (p .at + p .len) (length l) h)
+
+-- the bytes at the place of a field that stands in l are the field's
+pub part-field : {l : List ℕ} {x : Field} → FieldIn l x → partAt l (placeIn (length l) x) ≡ bytesIn x
+part-field {l} {x} h = part-is l _ (place-inside h) ∙ go x refl
+  where
+    go : (y : Field) → x ≡ y → take (placeIn (length l) y .len) (drop (placeIn (length l) y .at) l) ≡ bytesIn y
+    go absent e = unfold placeIn in refl
+    go (here v k) e = rw (← e) (place-value h e)
+
+module _ (l : List ℕ) where
+  -- no whole number fills l, and it counts as 0
+  pub whole-bad : wholeOf l ≡ Whole.Bad → wholeNumber l ≡ 0
+  unfolding wholeOf wholeNumber pick
+  whole-bad = go (isWhole (length l))
+    where
+      go : (b : Bool) → pick b (Whole.Is (big 0 l)) Whole.Bad ≡ Whole.Bad → pick b (big 0 l) 0 ≡ 0
+      go true e = cc
+      go false e = refl
+
+  -- the whole number that fills l
+  pub whole-is : {n : ℕ} → wholeOf l ≡ Whole.Is n → wholeNumber l ≡ n
+  unfolding wholeOf wholeNumber pick
+  whole-is {n} = go (isWhole (length l))
+    where
+      go : (b : Bool) → pick b (Whole.Is (big 0 l)) Whole.Bad ≡ Whole.Is n → pick b (big 0 l) 0 ≡ n
+      go true e = cc
+      go false e = cc

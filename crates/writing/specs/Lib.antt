@@ -1,0 +1,7 @@
+pub mod Written
+pub mod Size
+pub mod Stored
+pub mod WrittenLaws
+pub mod NackBack
+pub mod BareBack
+pub mod InterestBack
