@@ -30,3 +30,4 @@ pub mod Conserved
 pub mod Turns
 pub mod Opening
 pub mod Legal
+pub mod ShutOut

@@ -116,12 +116,12 @@ module _ (b : List ℕ) (at : ℕ) (vs c : List ℕ) where
 -- vs, of m bytes, and a place within b
 module _ (b : List ℕ) (at : ℕ) (vs : List ℕ) {m : ℕ} (size : length vs ≡ m) where
   -- there is room for vs where the rest of b has m bytes
-  pub room-left : at ≤ length b → m ≤ length b - at → Room b at vs
-  room-left h k = record { fits = omega arith }
+  pub rest-fits : at ≤ length b → m ≤ length b - at → Room b at vs
+  rest-fits h k = record { fits = omega arith }
 
   -- and there is none, so that b is to stay as it was, where it has fewer
-  pub full-left : length b - at < m → outcome Put.Full b ≡ wrote b at vs
-  full-left h = full-put b at vs b (omega arith) refl
+  pub rest-short : length b - at < m → outcome Put.Full b ≡ wrote b at vs
+  rest-short h = full-put b at vs b (omega arith) refl
 
 -- a store in front of a run of stores may come after it
 set-before : (vs b : List ℕ) (at j x : ℕ) → j < at → set (sets b at vs) j x ≡ sets (set b j x) at vs

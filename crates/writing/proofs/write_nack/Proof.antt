@@ -3,7 +3,7 @@
 use borrow.Author.Needs.{needs}
 use native.Mathlib.Omega.{arith}
 use mathlib.Core.Path.{refl}
-use Rattle.writing.specs.Stored.{room-left, full-left, stored-length, next-put, full-put}
+use Rattle.writing.specs.Stored.{rest-fits, rest-short, stored-length, next-put, full-put}
 use Rattle.writing.specs.WrittenLaws.{nack-most}
 use Rattle.writing.specs.Size.{nack-is}
 use Rattle.writing.proofs.write_nack.Statement.{statement}
@@ -27,13 +27,13 @@ returns-2 : tie.Need-returns-2
 returns-2 c =
     let len = c .before .before in
     let nonce = len .before .before .before .before .args .nonce in
-    rw nack-is (full-left _ _ _ (len .element-len .ensures _ (len .before .nack-len .ensures nonce)) (c .if2 .taken))
+    rw nack-is (rest-short _ _ _ (len .element-len .ensures _ (len .before .nack-len .ensures nonce)) (c .if2 .taken))
 
 store-nack-requires : tie.Need-store-nack-requires
 store-nack-requires c κs =
     let len = c .before .before .before in
     let nonce = len .before .before .before .before .args .nonce in
-    rw nack-is (room-left _ _ _ (len .element-len .ensures _ (len .before .nack-len .ensures nonce))
+    rw nack-is (rest-fits _ _ _ (len .element-len .ensures _ (len .before .nack-len .ensures nonce))
     (c .before .before .if1 .left) (c .before .if2 .left))
 
 same-length : tie.Need-same-length

@@ -1,0 +1,91 @@
+-- One result for each input of each public function: any two that its contract admits are equal, and of faces have equal views.
+-- Assumes nothing.
+use mathlib.Core.Path.{_≡_, sym, _∙_}
+use contract.Lifetimes.{Lfts}
+use denote.Triple.Clauses.{AtExit}
+use borrow.Fn.Kinds.{Dens, endedOf, resT}
+use Rattle.faces.specs.View.{view}
+use Rattle.faces.proofs.has.Kinds as has-kinds
+use Rattle.faces.proofs.has.Reads as has-reads
+use Rattle.faces.proofs.add.Kinds as add-kinds
+use Rattle.faces.proofs.add.Reads as add-reads
+use Rattle.faces.proofs.remove.Kinds as remove-kinds
+use Rattle.faces.proofs.remove.Reads as remove-reads
+use Rattle.faces.proofs.size.Kinds as size-kinds
+use Rattle.faces.proofs.size.Reads as size-reads
+use Rattle.faces.proofs.lowest.Kinds as lowest-kinds
+use Rattle.faces.proofs.lowest.Reads as lowest-reads
+use Rattle.faces.proofs.Faces.is_open.Kinds as is-open-kinds
+use Rattle.faces.proofs.Faces.is_open.Reads as is-open-reads
+use Rattle.faces.proofs.Faces.is_local.Kinds as is-local-kinds
+use Rattle.faces.proofs.Faces.is_local.Reads as is-local-reads
+use Rattle.faces.proofs.Faces.is_peer.Kinds as is-peer-kinds
+use Rattle.faces.proofs.Faces.is_peer.Reads as is-peer-reads
+use Rattle.faces.proofs.Faces.is_ad_hoc.Kinds as is-ad-hoc-kinds
+use Rattle.faces.proofs.Faces.is_ad_hoc.Reads as is-ad-hoc-reads
+use Rattle.faces.proofs.Faces.none.Kinds as none-kinds
+use Rattle.faces.proofs.Faces.none.Reads as none-reads
+use Rattle.faces.proofs.Faces.with_open.Kinds as with-open-kinds
+use Rattle.faces.proofs.Faces.with_open.Reads as with-open-reads
+use Rattle.faces.proofs.Faces.with_closed.Kinds as with-closed-kinds
+use Rattle.faces.proofs.Faces.with_closed.Reads as with-closed-reads
+
+-- whether a set has a face
+pub has-one : (κs : Lfts 0) (a : Dens κs has-kinds.ps) (x y : resT has-kinds.r κs .Denot) (s t : AtExit (endedOf 0 has-kinds.ps has-kinds.r) κs)
+    → has-reads.Post κs a x s → has-reads.Post κs a y t → x ≡ y
+has-one κs a x y s t p q = p ∙ sym q
+
+-- the set with a face more
+pub add-one : (κs : Lfts 0) (a : Dens κs add-kinds.ps) (x y : resT add-kinds.r κs .Denot) (s t : AtExit (endedOf 0 add-kinds.ps add-kinds.r) κs)
+    → add-reads.Post κs a x s → add-reads.Post κs a y t → x ≡ y
+add-one κs a x y s t p q = p ∙ sym q
+
+-- the set without a face
+pub remove-one : (κs : Lfts 0) (a : Dens κs remove-kinds.ps) (x y : resT remove-kinds.r κs .Denot) (s t : AtExit (endedOf 0 remove-kinds.ps remove-kinds.r) κs)
+    → remove-reads.Post κs a x s → remove-reads.Post κs a y t → x ≡ y
+remove-one κs a x y s t p q = p ∙ sym q
+
+-- how many faces a set has
+pub size-one : (κs : Lfts 0) (a : Dens κs size-kinds.ps) (x y : resT size-kinds.r κs .Denot) (s t : AtExit (endedOf 0 size-kinds.ps size-kinds.r) κs)
+    → size-reads.Post κs a x s → size-reads.Post κs a y t → x ≡ y
+size-one κs a x y s t p q = p ∙ sym q
+
+-- the lowest face of a set
+pub lowest-one : (κs : Lfts 0) (a : Dens κs lowest-kinds.ps) (x y : resT lowest-kinds.r κs .Denot) (s t : AtExit (endedOf 0 lowest-kinds.ps lowest-kinds.r) κs)
+    → lowest-reads.Post κs a x s → lowest-reads.Post κs a y t → x ≡ y
+lowest-one κs a x y s t p q = p ∙ sym q
+
+-- whether a face is open
+pub is-open-one : (κs : Lfts 0) (a : Dens κs is-open-kinds.ps) (x y : resT is-open-kinds.r κs .Denot) (s t : AtExit (endedOf 0 is-open-kinds.ps is-open-kinds.r) κs)
+    → is-open-reads.Post κs a x s → is-open-reads.Post κs a y t → x ≡ y
+is-open-one κs a x y s t p q = p ∙ sym q
+
+-- whether a face is open and local
+pub is-local-one : (κs : Lfts 0) (a : Dens κs is-local-kinds.ps) (x y : resT is-local-kinds.r κs .Denot) (s t : AtExit (endedOf 0 is-local-kinds.ps is-local-kinds.r) κs)
+    → is-local-reads.Post κs a x s → is-local-reads.Post κs a y t → x ≡ y
+is-local-one κs a x y s t p q = p ∙ sym q
+
+-- whether a face is open and point-to-point
+pub is-peer-one : (κs : Lfts 0) (a : Dens κs is-peer-kinds.ps) (x y : resT is-peer-kinds.r κs .Denot) (s t : AtExit (endedOf 0 is-peer-kinds.ps is-peer-kinds.r) κs)
+    → is-peer-reads.Post κs a x s → is-peer-reads.Post κs a y t → x ≡ y
+is-peer-one κs a x y s t p q = p ∙ sym q
+
+-- whether a face is open and ad hoc
+pub is-ad-hoc-one : (κs : Lfts 0) (a : Dens κs is-ad-hoc-kinds.ps) (x y : resT is-ad-hoc-kinds.r κs .Denot) (s t : AtExit (endedOf 0 is-ad-hoc-kinds.ps is-ad-hoc-kinds.r) κs)
+    → is-ad-hoc-reads.Post κs a x s → is-ad-hoc-reads.Post κs a y t → x ≡ y
+is-ad-hoc-one κs a x y s t p q = p ∙ sym q
+
+-- no face open
+pub none-one : (κs : Lfts 0) (a : Dens κs none-kinds.ps) (x y : resT none-kinds.r κs .Denot) (s t : AtExit (endedOf 0 none-kinds.ps none-kinds.r) κs)
+    → none-reads.Post κs a x s → none-reads.Post κs a y t → view 16 x ≡ view 16 y
+none-one κs a x y s t p q = p ∙ sym q
+
+-- the faces with one opened
+pub with-open-one : (κs : Lfts 0) (a : Dens κs with-open-kinds.ps) (x y : resT with-open-kinds.r κs .Denot) (s t : AtExit (endedOf 0 with-open-kinds.ps with-open-kinds.r) κs)
+    → with-open-reads.Post κs a x s → with-open-reads.Post κs a y t → view 16 x ≡ view 16 y
+with-open-one κs a x y s t p q = p ∙ sym q
+
+-- the faces with one closed
+pub with-closed-one : (κs : Lfts 0) (a : Dens κs with-closed-kinds.ps) (x y : resT with-closed-kinds.r κs .Denot) (s t : AtExit (endedOf 0 with-closed-kinds.ps with-closed-kinds.r) κs)
+    → with-closed-reads.Post κs a x s → with-closed-reads.Post κs a y t → view 16 x ≡ view 16 y
+with-closed-one κs a x y s t p q = p ∙ sym q

@@ -1,0 +1,4 @@
+pub mod Set
+pub mod SetLaws
+pub mod View
+pub mod ViewLaws

@@ -1,0 +1,184 @@
+// Sets of faces as bits of an unsigned number, and the open faces with scope and link type, by value.
+//
+// "a set whose size and lowest member are asked for constantly": face f is bit f - 1; ones give the size, trailing zeros the lowest face.
+ghost use mathlib.Core.Path.{_≡_};
+ghost use Rattle.laws.specs.Pick.{pick};
+ghost use Rattle.records.specs.Face.{isOpen, isLocalFace, isPeer, isAdHocFace};
+ghost use Rattle.faces.specs.Set.{hasFace, withFace, withoutFace, sizeOf, lowestOf};
+ghost use Rattle.faces.specs.View.{view, asked, opened, shut, closed};
+
+// "Faces 1 to 16": the one constant of the code.
+pub const FACES: usize = 16;
+
+// "link type (point-to-point, multi-access, ad hoc)"
+pub enum Link {
+    PointToPoint,
+    MultiAccess,
+    AdHoc,
+}
+
+// The open faces, and which of them are local, point-to-point and ad hoc, each a set.
+pub struct Faces {
+    pub open: u64,
+    pub local: u64,
+    pub peer: u64,
+    pub adhoc: u64,
+}
+
+// Whether a set has a face.
+pub fn has(set: u64, face: usize) -> bool
+    ensures { λ r. ⌜ r ≡ hasFace 16 set face ⌝ }
+{
+    if face == 0 {
+        return false;
+    }
+    if FACES < face {
+        return false;
+    }
+    (set >> ((face - 1) as u32)) % 2 == 1
+}
+
+// The set with a face more; a number that is no face changes nothing.
+pub fn add(set: u64, face: usize) -> u64
+    ensures { λ r. ⌜ r ≡ withFace 16 set face ⌝ }
+{
+    if face == 0 {
+        return set;
+    }
+    if FACES < face {
+        return set;
+    }
+    set | (1 << ((face - 1) as u32))
+}
+
+// The set without a face; a number that is no face changes nothing.
+pub fn remove(set: u64, face: usize) -> u64
+    ensures { λ r. ⌜ r ≡ withoutFace 16 set face ⌝ }
+{
+    if has(set, face) {
+        return set - (1 << ((face - 1) as u32));
+    }
+    set
+}
+
+// The set with a face or without it.
+fn put(set: u64, face: usize, there: bool) -> u64
+    ensures { λ r. ⌜ r ≡ pick there (withFace 16 set face) (withoutFace 16 set face) ⌝ }
+{
+    if there {
+        return add(set, face);
+    }
+    remove(set, face)
+}
+
+// How many faces a set has.
+pub fn size(set: u64) -> usize
+    ensures { λ r. ⌜ r ≡ sizeOf 16 set ⌝ }
+{
+    u64::count_ones(set % (1 << (FACES as u32))) as usize
+}
+
+// The lowest face of a set, one past the last face where it has none.
+pub fn lowest(set: u64) -> usize
+    ensures { λ r. ⌜ r ≡ lowestOf 16 set ⌝ }
+{
+    // The first digit that is no face's.
+    let past = 1 << (FACES as u32);
+    u64::trailing_zeros(set % past + past) as usize + 1
+}
+
+impl Faces {
+    // No face is open.
+    pub fn none() -> Faces
+        ensures { λ r. ⌜ view 16 r ≡ closed 16 ⌝ }
+    {
+        Faces {
+            open: 0,
+            local: 0,
+            peer: 0,
+            adhoc: 0,
+        }
+    }
+
+    // Whether a face is open.
+    pub fn is_open(self, face: usize) -> bool
+        ensures { λ r. ⌜ r ≡ asked 16 face (isOpen (view 16 self) face) ⌝ }
+    {
+        has(self.open, face)
+    }
+
+    // Whether a face is open and local.
+    pub fn is_local(self, face: usize) -> bool
+        ensures { λ r. ⌜ r ≡ asked 16 face (isLocalFace (view 16 self) face) ⌝ }
+    {
+        if has(self.open, face) {
+            return has(self.local, face);
+        }
+        false
+    }
+
+    // Whether a face is open and point-to-point.
+    pub fn is_peer(self, face: usize) -> bool
+        ensures { λ r. ⌜ r ≡ asked 16 face (isPeer (view 16 self) face) ⌝ }
+    {
+        if has(self.open, face) {
+            return has(self.peer, face);
+        }
+        false
+    }
+
+    // Whether a face is open and ad hoc: a face that is both is point-to-point.
+    pub fn is_ad_hoc(self, face: usize) -> bool
+        ensures { λ r. ⌜ r ≡ asked 16 face (isAdHocFace (view 16 self) face) ⌝ }
+    {
+        if has(self.open, face) {
+            if has(self.peer, face) {
+                return false;
+            }
+            return has(self.adhoc, face);
+        }
+        false
+    }
+
+    // The faces with one opened, or opened anew; a number that is no face changes nothing.
+    pub fn with_open(self, face: usize, local: bool, link: Link) -> Faces
+        ensures { λ r. ⌜ view 16 r ≡ opened 16 face local link (view 16 self) ⌝ }
+    {
+        let open = add(self.open, face);
+        let scope = put(self.local, face, local);
+        let peer = self.peer;
+        let adhoc = self.adhoc;
+        match link {
+            Link::PointToPoint => Faces {
+                open: open,
+                local: scope,
+                peer: add(peer, face),
+                adhoc: remove(adhoc, face),
+            },
+            Link::MultiAccess => Faces {
+                open: open,
+                local: scope,
+                peer: remove(peer, face),
+                adhoc: remove(adhoc, face),
+            },
+            Link::AdHoc => Faces {
+                open: open,
+                local: scope,
+                peer: remove(peer, face),
+                adhoc: add(adhoc, face),
+            },
+        }
+    }
+
+    // The faces with one closed; a number that is no face changes nothing.
+    pub fn with_closed(self, face: usize) -> Faces
+        ensures { λ r. ⌜ view 16 r ≡ shut 16 face (view 16 self) ⌝ }
+    {
+        Faces {
+            open: remove(self.open, face),
+            local: self.local,
+            peer: self.peer,
+            adhoc: self.adhoc,
+        }
+    }
+}
