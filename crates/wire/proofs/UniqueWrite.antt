@@ -17,7 +17,7 @@ use Rattle.wire.proofs.write.put_bytes.Kinds as bytes-kinds
 use Rattle.wire.proofs.write.put_bytes.Reads as bytes-reads
 
 -- two answers with their buffers that are the same outcome
-one-outcome : {x y : Put} {b c : List ℕ} {o : Outcome} → outcome x b ≡ o → outcome y c ≡ o → (x ≡ y) × (b ≡ c)
+pub one-outcome : {x y : Put} {b c : List ℕ} {o : Outcome} → outcome x b ≡ o → outcome y c ≡ o → (x ≡ y) × (b ≡ c)
 one-outcome p q = (ap (λ (o : Outcome). o .next) (p ∙ sym q), ap (λ (o : Outcome). o .buffer) (p ∙ sym q))
 
 -- `put_number` has one outcome
