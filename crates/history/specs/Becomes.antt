@@ -22,18 +22,18 @@ use Rattle.packets.specs.Bare as read
 use Rattle.packets.specs.Meaning.{Ask, Offer, askOf, offerOf}
 use Rattle.writing.specs.Written.{lowered}
 use Rattle.records.specs.Class.{classOf, isClass}
-use Rattle.records.specs.Slots.{setSlot, Held, only, isEmpty}
+use Rattle.records.specs.Slots.{setSlot, Held, only, isEmpty, atPlace}
 use Rattle.names.specs.SameLaws.{both}
 use Rattle.records.specs.Face.{isFace, isOpen, isLocalFace}
 use Rattle.records.specs.Route.{Route, routeOf, withClass, newRoute, withHop, longest}
-use Rattle.records.specs.Entry.{Entry, matches}
+use Rattle.records.specs.Entry.{Entry, matches, withNack}
 use Rattle.records.specs.Stored.{Hit, lookup}
 use Rattle.rules.specs.Node.{Node, What, packet, clock, openFace, closeFace, setRoute, dropRoute, addHop, dropHop, Event, mostRoutes, withPending, withFaces, withRoutes}
 use Rattle.rules.specs.Outcome.{Outcome, quiet, nackFor}
 use Rattle.rules.specs.Ageing.{aged, ageing}
-use Rattle.rules.specs.Interest.{Arrival, cheapest, eligibleHops, entryAt, entryOf, newEntry, noRoom, opensEntry, mayOpen, routed, served, asksAnew, asksAgain, asksEntry, interestStep}
+use Rattle.rules.specs.Interest.{Arrival, cheapest, eligibleHops, entryOf, newEntry, noRoom, opensEntry, mayOpen, routed, served, asksAnew, asksAgain, asksEntry, interestStep}
 use Rattle.rules.specs.Data.{satisfies, dataStep}
-use Rattle.rules.specs.Nack.{withNack, endsByNack, nackedEntry, nackStep}
+use Rattle.rules.specs.Nack.{endsByNack, nackedEntry, nackStep}
 use Rattle.rules.specs.Command.{faceOf, byPrefix, openStep, closeStep, setRouteStep, onRoute, dropRouteStep, addHopStep, dropHopStep}
 use Rattle.rules.specs.Step.{bareStep, packetStep, whatStep, badFace, after, badTime, step}
 
@@ -97,14 +97,14 @@ module _ (faces now : ℕ) (n : Node) where
         → Past (packet f l) (served n (arrival f q) h)
     -- an Interest that opens an entry
     opened : (f : ℕ) (l : List ℕ) (q : HoldsInterest l) (r : Route) (h : Held ℕ)
-        → entryAt (entryOf n (asked q)) (n .pending) ≡ none
+        → atPlace (entryOf n (asked q)) (n .pending) ≡ none
         → longest (asked q .name) (n .routes) ≡ some r
         → cheapest (eligibleHops n (arrival f q) (isLocalFace (n .faces) f) (some r)) ≡ some h
         → noRoom n (newEntry now n (arrival f q) (r .cls) (h .face)) ≡ false
         → Past (packet f l) (opensEntry now n (arrival f q) (r .cls) (h .face))
     -- an Interest whose entry is there
     joined : (f : ℕ) (l : List ℕ) (q : HoldsInterest l) (e : Entry)
-        → entryAt (entryOf n (asked q)) (n .pending) ≡ some e
+        → atPlace (entryOf n (asked q)) (n .pending) ≡ some e
         → Past (packet f l) (asksAgain now n (arrival f q) (entryOf n (asked q)) e)
     -- a Data that ends the requests of the entries that it matches
     satisfied : (f : ℕ) (l : List ℕ) (q : HoldsData l)
@@ -112,11 +112,11 @@ module _ (faces now : ℕ) (n : Node) where
         → Past (packet f l) (satisfies now n f (brought q) (q .bare .bytes))
     -- a Nack for an out-record, others being still without one
     marked : (f : ℕ) (l : List ℕ) (q : HoldsNack l) (e : Entry)
-        → entryAt (entryOf n (denied q)) (n .pending) ≡ some e
+        → atPlace (entryOf n (denied q)) (n .pending) ≡ some e
         → Past (packet f l) (quiet Answer.Done (withPending n (onAt (entryOf n (denied q)) (λ _. withNack f (q .reason) e) (n .pending))))
     -- a Nack that leaves all out-records Nacked
     nackedOn : (f : ℕ) (l : List ℕ) (q : HoldsNack l) (e : Entry)
-        → entryAt (entryOf n (denied q)) (n .pending) ≡ some e
+        → atPlace (entryOf n (denied q)) (n .pending) ≡ some e
         → Past (packet f l) (endsByNack now n (entryOf n (denied q)) (withNack f (q .reason) e))
     -- a face is opened
     opensFace : (f scope link : ℕ) → isOpen (n .faces) f ≡ false
@@ -141,7 +141,7 @@ module _ (faces now : ℕ) (n : Node) where
         → Past (dropHop f p) (quiet Answer.Done (withRoutes n (onAt (routeOf p (n .routes)) (withHop f none) (n .routes))))
 
   -- an Interest, by the route for it
-  routed-past : (f : ℕ) (l : List ℕ) (q : HoldsInterest l) → entryAt (entryOf n (asked q)) (n .pending) ≡ none
+  routed-past : (f : ℕ) (l : List ℕ) (q : HoldsInterest l) → atPlace (entryOf n (asked q)) (n .pending) ≡ none
       → (x : Option Route) → longest (asked q .name) (n .routes) ≡ x → Past (packet f l) (routed now n (arrival f q) x)
   unfolding routed
   routed-past f l q a none b = nackedBack f l q Answer.NoRoute 150
@@ -155,7 +155,7 @@ module _ (faces now : ℕ) (n : Node) where
           (λ _. nackedBack f l q Answer.NoRoom 50) (λ d. opened f l q r h a b c d))
 
   -- an Interest past the checks
-  entry-past : (f : ℕ) (l : List ℕ) (q : HoldsInterest l) (x : Option Entry) → entryAt (entryOf n (asked q)) (n .pending) ≡ x
+  entry-past : (f : ℕ) (l : List ℕ) (q : HoldsInterest l) (x : Option Entry) → atPlace (entryOf n (asked q)) (n .pending) ≡ x
       → Past (packet f l) (asksEntry now n (arrival f q) x)
   unfolding asksEntry
   entry-past f l q (some e) a = joined f l q e a
@@ -174,7 +174,7 @@ module _ (faces now : ℕ) (n : Node) where
       pick-ind (Past (packet f l)) _ _ _ (λ _. refused f l Answer.HopLimit)
       (λ _. pick-ind (Past (packet f l)) _ _ _ (λ _. refused f l Answer.Scope)
       (λ _. pick-ind (Past (packet f l)) _ _ _ (λ _. nackedBack f l q Answer.Loop 100)
-      (λ _. entry-past f l q (entryAt (entryOf n (asked q)) (n .pending)) refl)))
+      (λ _. entry-past f l q (atPlace (entryOf n (asked q)) (n .pending)) refl)))
 
   -- a Data
   data-past : (f : ℕ) (l : List ℕ) (q : HoldsData l) → Past (packet f l) (dataStep now n f (brought q) (q .bare .bytes))
@@ -184,7 +184,7 @@ module _ (faces now : ℕ) (n : Node) where
       (λ _. pick-ind (Past (packet f l)) _ _ _ (λ _. refused f l Answer.Unsolicited) (λ a. satisfied f l q a))
 
   -- a Nack for an out-record
-  nacked-past : (f : ℕ) (l : List ℕ) (q : HoldsNack l) (e : Entry) → entryAt (entryOf n (denied q)) (n .pending) ≡ some e
+  nacked-past : (f : ℕ) (l : List ℕ) (q : HoldsNack l) (e : Entry) → atPlace (entryOf n (denied q)) (n .pending) ≡ some e
       → Past (packet f l) (nackedEntry now n (entryOf n (denied q)) (withNack f (q .reason) e))
   unfolding nackedEntry
   nacked-past f l q e a = pick-ind (Past (packet f l)) _ _ _ (λ _. nackedOn f l q e a) (λ _. marked f l q e a)
@@ -192,9 +192,9 @@ module _ (faces now : ℕ) (n : Node) where
   -- a Nack
   nack-past : (f : ℕ) (l : List ℕ) (q : HoldsNack l) → Past (packet f l) (nackStep now n f (q .reason) (denied q))
   unfolding nackStep
-  nack-past f l q = go (entryAt (entryOf n (denied q)) (n .pending)) refl
+  nack-past f l q = go (atPlace (entryOf n (denied q)) (n .pending)) refl
     where
-      go : (x : Option Entry) → entryAt (entryOf n (denied q)) (n .pending) ≡ x
+      go : (x : Option Entry) → atPlace (entryOf n (denied q)) (n .pending) ≡ x
           → Past (packet f l) (nackStep now n f (q .reason) (denied q))
       go none a =
           rw a (pick-ind (Past (packet f l)) _ _ _ (λ _. refused f l Answer.Scope)

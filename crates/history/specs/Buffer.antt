@@ -19,13 +19,13 @@ use Rattle.writing.specs.Size.{nack-size}
 use Rattle.records.specs.Class.{Class}
 use Rattle.records.specs.Slots.{Held, heldFrom, held, only}
 use Rattle.records.specs.Face.{isPeer}
-use Rattle.records.specs.Entry.{Request, Entry, withSent}
+use Rattle.records.specs.Entry.{Request, Entry, withSent, withNack}
 use Rattle.rules.specs.Node.{Node, What, Event}
 use Rattle.rules.specs.Outcome.{Kind, interest, dat, nack, Send, Outcome, quiet, nackFor}
 use Rattle.rules.specs.Ageing.{aged}
 use Rattle.rules.specs.Interest.{Arrival, sendsOn, forwards, opensEntry, asksAgain, served}
 use Rattle.rules.specs.Data.{satisfies}
-use Rattle.rules.specs.Nack.{withNack, peersOf, nackOf, endsByNack}
+use Rattle.rules.specs.Nack.{peersOf, nackOf, endsByNack}
 use Rattle.rules.specs.Command.{closeStep}
 use Rattle.rules.specs.Step.{after, step}
 use Rattle.rules.specs.Packed.{Placed, packs, packedFrom, packed}

@@ -10,17 +10,17 @@ use Rattle.laws.specs.Tab.{onAt, without}
 use Rattle.packets.specs.Bare as bare
 use Rattle.packets.specs.Meaning.{Ask, Offer}
 use Rattle.records.specs.Class.{Class, classOf}
-use Rattle.records.specs.Slots.{setSlot}
+use Rattle.records.specs.Slots.{setSlot, atPlace}
 use Rattle.records.specs.Face.{Face}
 use Rattle.records.specs.Route.{withClass, newRoute, withHop}
-use Rattle.records.specs.Entry.{Entry}
+use Rattle.records.specs.Entry.{Entry, withNack}
 use Rattle.records.specs.Stored.{Hit}
 use Rattle.rules.specs.Node.{Node, withFaces, withRoutes, withPending, What, Event}
 use Rattle.rules.specs.Outcome.{Outcome, quiet, nackFor}
 use Rattle.rules.specs.Ageing.{aged, ageing}
-use Rattle.rules.specs.Interest.{Arrival, entryAt, entryOf, opensEntry, served, asksAgain}
+use Rattle.rules.specs.Interest.{Arrival, entryOf, opensEntry, served, asksAgain}
 use Rattle.rules.specs.Data.{satisfies}
-use Rattle.rules.specs.Nack.{withNack, endsByNack}
+use Rattle.rules.specs.Nack.{endsByNack}
 use Rattle.rules.specs.Command.{faceOf, closeStep}
 use Rattle.rules.specs.Step.{badFace, after, step}
 use Rattle.history.specs.Becomes.{arrival, asked, brought, GoodFace, good-face, aged-face, Past, Becomes, ignored, taken, becomes}
@@ -35,18 +35,18 @@ pub record Rules (faces now : ℕ) (n : Node) (P : Outcome → Type 0) : Type 0 
   -- an Interest served from the store
   pub serves : (a : Arrival) (h : Hit) → P (served n a h)
   -- an Interest that opens an entry: there was none for it
-  pub opens : (a : Arrival) (c : Class) (h : ℕ) → GoodFace faces n (a .face) → entryAt (entryOf n (a .ask)) (n .pending) ≡ none
+  pub opens : (a : Arrival) (c : Class) (h : ℕ) → GoodFace faces n (a .face) → atPlace (entryOf n (a .ask)) (n .pending) ≡ none
       → P (opensEntry now n a c h)
   -- an Interest that finds its entry
-  pub joins : (a : Arrival) (e : Entry) → GoodFace faces n (a .face) → entryAt (entryOf n (a .ask)) (n .pending) ≡ some e
+  pub joins : (a : Arrival) (e : Entry) → GoodFace faces n (a .face) → atPlace (entryOf n (a .ask)) (n .pending) ≡ some e
       → P (asksAgain now n a (entryOf n (a .ask)) e)
   -- Data that ends requests
   pub satisfied : (f : ℕ) (d : Offer) (bytes : List ℕ) → P (satisfies now n f d bytes)
   -- a Nack that leaves an out-record without one
-  pub marks : (i f reason : ℕ) (e : Entry) → entryAt i (n .pending) ≡ some e
+  pub marks : (i f reason : ℕ) (e : Entry) → atPlace i (n .pending) ≡ some e
       → P (quiet Answer.Done (withPending n (onAt i (λ _. withNack f reason e) (n .pending))))
   -- a Nack that leaves all out-records Nacked
-  pub nacks : (i f reason : ℕ) (e : Entry) → entryAt i (n .pending) ≡ some e → P (endsByNack now n i (withNack f reason e))
+  pub nacks : (i f reason : ℕ) (e : Entry) → atPlace i (n .pending) ≡ some e → P (endsByNack now n i (withNack f reason e))
   -- a face opened, a face closed
   pub opensFace : (f : ℕ) (x : Face) → P (quiet Answer.Done (withFaces n (setSlot f (some x) (n .faces))))
   pub closesFace : (f : ℕ) → GoodFace faces n f → P (closeStep now n f)

@@ -15,13 +15,13 @@ use Rattle.names.specs.Name.{sameBytes, prefixOf}
 use Rattle.names.specs.SameLaws.{same-refl, same-equal}
 use Rattle.records.specs.Class.{Class, classOf, isClass}
 use Rattle.records.specs.Route.{Route, routeOf, withClass, newRoute, withHop, longer, longest}
-use Rattle.records.specs.Entry.{Entry, withRequests, withSent, agedEntry}
+use Rattle.records.specs.Entry.{Entry, withRequests, withSent, agedEntry, withNack}
 use Rattle.rules.specs.Node.{Node, emptyNode, What, packet, clock, openFace, closeFace, setRoute, dropRoute, addHop, dropHop, Event}
 use Rattle.rules.specs.Outcome.{Outcome, quiet, nackFor}
-use Rattle.rules.specs.Ageing.{stays, agedPending, aged}
-use Rattle.rules.specs.Interest.{Arrival, entryAt, newEntry, opensEntry, withRequest, sentOn, asksAgain, served}
+use Rattle.rules.specs.Ageing.{aged}
+use Rattle.rules.specs.Interest.{Arrival, newEntry, opensEntry, withRequest, sentOn, asksAgain, served}
 use Rattle.rules.specs.Data.{satisfies}
-use Rattle.rules.specs.Nack.{withNack, withoutPeer, settled, endsByNack}
+use Rattle.rules.specs.Nack.{withoutPeer, settled, endsByNack}
 use Rattle.rules.specs.Command.{withoutFace, closeStep}
 use Rattle.rules.specs.Step.{after, step, run}
 use Rattle.history.specs.Every.{not-none, All, nothing, both, In, here, there, all-mono, all-only, all-map, all-snoc, all-onAt, all-without, all-in, all-and}
@@ -31,6 +31,8 @@ use Rattle.history.specs.Becomes.{isDone, arrival, Past, Becomes, ignore
 use Rattle.history.specs.Becomes as case
 use Rattle.history.specs.Shape.{Shaped, OtherRoute}
 use Rattle.history.specs.ShapeKept.{step-shaped, empty-shaped, run-shaped, reached}
+use Rattle.records.specs.Slots.{atPlace}
+use Rattle.records.specs.Ageing.{stays, agedPending}
 
 -- each route has one of the three classes, and so has each pending entry
 pub record Classed (n : Node) : Type 0 where
@@ -101,13 +103,13 @@ module _ (faces now : ℕ) (n : Node) (k : Classed n) where
   again-classed a i (some h) = all-onAt i _ (λ y c. c) (k .pending)
 
   -- a Nack
-  marked-classed : (i f r : ℕ) (e : Entry) → entryAt i (n .pending) ≡ some e
+  marked-classed : (i f r : ℕ) (e : Entry) → atPlace i (n .pending) ≡ some e
       → All (λ x. isClass (x .cls) ≡ true) (onAt i (λ _. withNack f r e) (n .pending))
   unfolding withNack withSent
   marked-classed i f r e q = all-onAt i _ (λ y c. all-in (k .pending) (entry-in i (n .pending) e q)) (k .pending)
 
   -- a Nack that ends requests
-  nacked-classed : (i f r : ℕ) (e : Entry) → entryAt i (n .pending) ≡ some e → Classed (endsByNack now n i (withNack f r e) .node)
+  nacked-classed : (i f r : ℕ) (e : Entry) → atPlace i (n .pending) ≡ some e → Classed (endsByNack now n i (withNack f r e) .node)
   unfolding endsByNack settled withoutPeer withNack withRequests withSent
   nacked-classed i f r e q = record {
     routes = k .routes;

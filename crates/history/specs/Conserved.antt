@@ -11,15 +11,16 @@ use mathlib.Core.List.{List, [], _∷_, _++_}
 use native.Mathlib.Omega.{arith}
 use Rattle.records.specs.Entry.{Entry}
 use Rattle.rules.specs.Node.{Node, Event, emptyNode}
-use Rattle.rules.specs.Outcome.{Fate, opened, answered, nacked, expired, closed, selfMet, Happening, quiet}
+use Rattle.rules.specs.Outcome.{quiet}
 use Rattle.rules.specs.Ageing.{aged, ageing}
 use Rattle.rules.specs.Step.{after, step, run, history}
 use Rattle.history.specs.Count.{howMany}
-use Rattle.history.specs.Key.{Key, fateNumber, isFate, isEnd, counted, ended, openNow, ofFace}
+use Rattle.history.specs.Key.{Key, isFate, isEnd, counted, ended, openNow, ofFace}
 use Rattle.history.specs.ByRule.{by-rule}
 use Rattle.history.specs.Shape.{Shaped}
 use Rattle.history.specs.ShapeKept.{empty-shaped, aged-shaped, step-shaped}
 use Rattle.history.specs.Moves.{Moves, ends, begins, counted-append, ended-append, ageing-moves, rules-moves}
+use Rattle.records.specs.Happening.{Fate, opened, answered, nacked, expired, closed, selfMet, Happening, fateNumber}
 
 -- of the keys that p holds of: opened = answered + ended by Nack + expired + ended by closing + self-met + standing in the table
 abbrev pub Accounted : (Key → Bool) → List Happening → List Entry → Type 0

@@ -15,14 +15,14 @@ use Rattle.names.specs.Name.{prefixOf}
 use Rattle.names.specs.SameLaws as names
 use Rattle.packets.specs.Meaning.{Ask, Offer, asks, brings, nacks}
 use Rattle.writing.specs.Written.{nackBytes}
-use Rattle.records.specs.Slots.{slot, isSome, Held, held, only, each}
-use Rattle.records.specs.Entry.{Request, Entry, isLive, matches, withSent, smallestReason}
+use Rattle.records.specs.Slots.{slot, isSome, Held, held, only, each, atPlace}
+use Rattle.records.specs.Entry.{Request, Entry, isLive, matches, withSent, smallestReason, withNack}
 use Rattle.rules.specs.Node.{Node, What, packet, closeFace, Event}
-use Rattle.rules.specs.Outcome.{dat, nack, Fate, opened, answered, nacked, expired, closed, selfMet, Happening, happens, Outcome, quiet, nackFor}
-use Rattle.rules.specs.Ageing.{expiries, aged, ageing}
-use Rattle.rules.specs.Interest.{requestOf, entryAt, entryOf, newEntry, opens, opensEntry, asksAgain, served}
+use Rattle.rules.specs.Outcome.{dat, nack, Outcome, quiet, nackFor}
+use Rattle.rules.specs.Ageing.{aged, ageing}
+use Rattle.rules.specs.Interest.{requestOf, entryOf, newEntry, opens, opensEntry, asksAgain, served}
 use Rattle.rules.specs.Data.{isSelfMet, fateOf, dataEnds, satisfies}
-use Rattle.rules.specs.Nack.{withNack, peersOf, nackOf, endsByNack}
+use Rattle.rules.specs.Nack.{peersOf, nackOf, endsByNack}
 use Rattle.rules.specs.Command.{closingEnds, closeStep}
 use Rattle.rules.specs.Step.{badFace, after, step}
 use Rattle.history.specs.Every.{only-in, all-any, All, nothing, both, In, all-mono, all-only, only-test, all-and, all-append, all-map, all-each, all-own, all-in, some-mono, some-map}
@@ -35,6 +35,8 @@ use Rattle.history.specs.Shape.{Shaped}
 use Rattle.history.specs.ShapeKept.{aged-shaped, run-shaped, reached}
 use Rattle.history.specs.Owed.{matches-says, aged-live}
 use Rattle.history.specs.Copies.{Leaves, copies-made}
+use Rattle.records.specs.Happening.{Fate, opened, answered, nacked, expired, closed, selfMet, Happening, happens}
+use Rattle.records.specs.Ageing.{expiries}
 
 -- opened: an Interest came on the face, with this name, these flags and this nonce; the request lives for the Interest's lifetime; and the
 -- answer is 0
@@ -219,7 +221,7 @@ module _ (faces : ℕ) (e : Event) (n : Node) (s : Shaped faces n) where
 
   -- the requests that a Nack ends
   nack-honest : (f : ℕ) (l : List ℕ) → e .what ≡ packet f l → (q : HoldsNack l) (x : Entry)
-      → entryAt (entryOf (aged (e .time) n) (denied q)) (aged (e .time) n .pending) ≡ some x
+      → atPlace (entryOf (aged (e .time) n) (denied q)) (aged (e .time) n .pending) ≡ some x
       → All (Honest e (whole e n (refusing e n f q x))) (refusing e n f q x .happenings)
   unfolding endsByNack after peersOf withNack withSent happens nackOf
   nack-honest f l came q x a =

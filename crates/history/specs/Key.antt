@@ -8,8 +8,8 @@ use Rattle.names.specs.Name.{sameBytes}
 use Rattle.records.specs.Class.{Class}
 use Rattle.records.specs.Slots.{held, anyOf}
 use Rattle.records.specs.Entry.{Entry}
-use Rattle.rules.specs.Outcome.{Fate, opened, answered, nacked, expired, closed, selfMet, Happening}
 use Rattle.history.specs.Count.{howMany}
+use Rattle.records.specs.Happening.{Fate, opened, Happening, fateNumber}
 
 -- whose request it is: its face, and the name, flags and class of its entry
 pub record Key : Type 0 where
@@ -26,15 +26,6 @@ keyOf h = record { face = h .face; name = h .name; canBePrefix = h .canBePrefix;
 -- the key of the request that an entry holds for a face
 unfoldable pub keyAt : Entry → ℕ → Key
 keyAt e f = record { face = f; name = e .name; canBePrefix = e .canBePrefix; mustBeFresh = e .mustBeFresh; cls = e .cls }
-
--- the fates by number
-unfoldable pub fateNumber : Fate → ℕ
-fateNumber opened = 1
-fateNumber answered = 2
-fateNumber nacked = 3
-fateNumber expired = 4
-fateNumber closed = 5
-fateNumber selfMet = 6
 
 -- whether two fates are the same
 unfoldable pub isFate : Fate → Fate → Bool

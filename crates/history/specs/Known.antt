@@ -14,8 +14,9 @@ use Rattle.names.specs.SameLaws.{both, same-refl, same-equal}
 use Rattle.packets.specs.Meaning.{Ask}
 use Rattle.records.specs.Entry.{Entry, isKnown}
 use Rattle.rules.specs.Node.{Node}
-use Rattle.rules.specs.Interest.{entryAt, entryOf}
+use Rattle.rules.specs.Interest.{entryOf}
 use Rattle.history.specs.Every.{not-none, In, here, there}
+use Rattle.records.specs.Slots.{atPlace}
 
 -- names that are not equal are not the same bytes
 pub differs : (a b : List ℕ) → (a ≡ b → ⊥) → sameBytes a b ≡ false
@@ -26,22 +27,22 @@ differs a b d = go (sameBytes a b) refl
     go false e = refl
 
 -- an entry at a place is one of them
-pub entry-in : (i : ℕ) (es : List Entry) (e : Entry) → entryAt i es ≡ some e → In e es
-unfolding entryAt
+pub entry-in : (i : ℕ) (es : List Entry) (e : Entry) → atPlace i es ≡ some e → In e es
+unfolding atPlace
 entry-in i [] e q = not-none q
 entry-in zero (x ∷ es) e q = let p : x ≡ e = cc in here p
 entry-in (suc i) (x ∷ es) e q = there (entry-in i es e q)
 
 -- where no entry stands, the list has ended
-pub entry-none : (i : ℕ) (es : List Entry) → entryAt i es ≡ none → length es ≤ i
-unfolding entryAt
+pub entry-none : (i : ℕ) (es : List Entry) → atPlace i es ≡ none → length es ≤ i
+unfolding atPlace
 entry-none i [] q = omega arith
 entry-none zero (x ∷ es) q = not-none (sym q)
 entry-none (suc i) (x ∷ es) q = omega (arith, entry-none i es q)
 
 -- the entry at a place replaced by what g makes of it is that entry changed by g
-pub entry-changed : (i : ℕ) (es : List Entry) (e : Entry) (g : Entry → Entry) → entryAt i es ≡ some e → onAt i (λ _. g e) es ≡ onAt i g es
-unfolding entryAt onAt
+pub entry-changed : (i : ℕ) (es : List Entry) (e : Entry) (g : Entry → Entry) → atPlace i es ≡ some e → onAt i (λ _. g e) es ≡ onAt i g es
+unfolding atPlace onAt
 entry-changed i [] e g q = refl
 entry-changed zero (x ∷ es) e g q = let p : e ≡ x = cc in rw p
 entry-changed (suc i) (x ∷ es) e g q = rw (entry-changed i es e g q)
@@ -73,12 +74,12 @@ known-is name p m e q =
     (sym (same-equal name (e .name) (b .0)), (sym (flag-equal p (e .canBePrefix) (b .1)), sym (flag-equal m (e .mustBeFresh) (a .1))))
 
 -- the test holds of the entry that a search finds
-found-passes : (p : Entry → Bool) (es : List Entry) (e : Entry) → entryAt (indexOf p es) es ≡ some e → p e ≡ true
-unfolding indexOf entryAt
+found-passes : (p : Entry → Bool) (es : List Entry) (e : Entry) → atPlace (indexOf p es) es ≡ some e → p e ≡ true
+unfolding indexOf atPlace
 found-passes p [] e q = not-none q
 found-passes p (x ∷ es) e q =
     let rest = found-passes p es e in
-    pick-ind (λ (i : ℕ). entryAt i (x ∷ es) ≡ some e → p e ≡ true) (p x) _ _ (λ y r. let s : x ≡ e = cc in rw s at y) (λ _. rest) q
+    pick-ind (λ (i : ℕ). atPlace i (x ∷ es) ≡ some e → p e ≡ true) (p x) _ _ (λ y r. let s : x ≡ e = cc in rw s at y) (λ _. rest) q
 
 -- an entry has the name and flags of an Interest
 pub record KnownBy (i : Ask) (e : Entry) : Type 0 where
@@ -87,7 +88,7 @@ pub record KnownBy (i : Ask) (e : Entry) : Type 0 where
   pub fresh : e .mustBeFresh ≡ i .mustBeFresh
 
 -- the entry of an Interest has its name and flags
-pub entry-known : (n : Node) (i : Ask) (e : Entry) → entryAt (entryOf n i) (n .pending) ≡ some e → KnownBy i e
+pub entry-known : (n : Node) (i : Ask) (e : Entry) → atPlace (entryOf n i) (n .pending) ≡ some e → KnownBy i e
 unfolding entryOf
 entry-known n i e q =
     let p = isKnown (i .name) (i .canBePrefix) (i .mustBeFresh) in

@@ -17,7 +17,7 @@ use Rattle.names.specs.SameLaws.{both}
 use Rattle.records.specs.Slots.{Held, held, anyOf}
 use Rattle.records.specs.Entry.{Request, Entry, isKnown}
 use Rattle.rules.specs.Node.{Node, Event, emptyNode}
-use Rattle.rules.specs.Outcome.{opened, Happening, quiet}
+use Rattle.rules.specs.Outcome.{quiet}
 use Rattle.rules.specs.Ageing.{aged, ageing}
 use Rattle.rules.specs.Step.{after, step, run, history}
 use Rattle.history.specs.Count.{one, howMany, howMany-le, howMany-none, howMany-any, onFaces, onFaces-one}
@@ -31,6 +31,7 @@ use Rattle.history.specs.Once.{known-once}
 use Rattle.history.specs.Turns.{turns, Legal, legal-then, legal-ends, legal-begins, legal-at, legal-counts}
 use Rattle.history.specs.Opening.{Opening, its-opening, those, rest, same-kind}
 use Rattle.history.specs.Moves.{Moves, ends, begins, ageing-moves, rules-moves}
+use Rattle.records.specs.Happening.{opened, Happening}
 
 module _ (q : Key → Bool) where
   -- at most one request counts: 1 where it stands

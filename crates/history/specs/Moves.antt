@@ -14,23 +14,25 @@ use Rattle.laws.specs.Pick.{pick, pick-ind}
 use Rattle.laws.specs.Tab.{onAt, without}
 use Rattle.packets.specs.Meaning.{Offer}
 use Rattle.records.specs.Class.{Class}
-use Rattle.records.specs.Slots.{slot, setSlot, isSome, Held, heldFrom, held, only, each}
+use Rattle.records.specs.Slots.{slot, setSlot, isSome, Held, heldFrom, held, only, each, atPlace}
 use Rattle.records.specs.Face.{isPeer}
-use Rattle.records.specs.Entry.{Request, Entry, withRequests, withSent, isIdle, isLive, ifLive, agedEntry, matches}
+use Rattle.records.specs.Entry.{Request, Entry, withRequests, withSent, isIdle, isLive, ifLive, agedEntry, matches, withNack}
 use Rattle.rules.specs.Node.{Node}
-use Rattle.rules.specs.Outcome.{Fate, opened, nacked, expired, Happening, happens, quiet, nackFor}
-use Rattle.rules.specs.Ageing.{expiries, stays, agedPending, aged, ageing}
-use Rattle.rules.specs.Interest.{Arrival, requestOf, entryAt, entryOf, newEntry, opens, opensEntry, served, withRequest, resends, sentOn, asksAgain}
+use Rattle.rules.specs.Outcome.{quiet, nackFor}
+use Rattle.rules.specs.Ageing.{aged, ageing}
+use Rattle.rules.specs.Interest.{Arrival, requestOf, entryOf, newEntry, opens, opensEntry, served, withRequest, resends, sentOn, asksAgain}
 use Rattle.rules.specs.Data.{isSelfMet, fateOf, dataEnds, satisfies}
-use Rattle.rules.specs.Nack.{withNack, peersOf, withoutPeers, withoutPeer, settled, endsByNack}
+use Rattle.rules.specs.Nack.{peersOf, withoutPeers, withoutPeer, settled, endsByNack}
 use Rattle.rules.specs.Command.{withoutFace, closingEnds, closeStep}
 use Rattle.history.specs.Count.{one, howMany, howMany-append, howMany-same, howMany-none, howMany-map, onFaces, onFaces-setSlot, onFaces-noSlot, onFaces-new, onFaces-empty, onFaces-live, onFaces-peers}
-use Rattle.history.specs.Key.{Key, keyOf, keyAt, fateNumber, isFate, isEnd, counted, ended, openIn, openNow}
+use Rattle.history.specs.Key.{Key, keyOf, keyAt, isFate, isEnd, counted, ended, openIn, openNow}
 use Rattle.history.specs.ByRule.{Rules}
 use Rattle.history.specs.Becomes.{GoodFace}
 use Rattle.history.specs.Every.{all-in}
 use Rattle.history.specs.Known.{entry-in}
 use Rattle.history.specs.Shape.{Shaped}
+use Rattle.records.specs.Happening.{Fate, opened, nacked, expired, Happening, happens, fateNumber}
+use Rattle.records.specs.Ageing.{expiries, stays, agedPending}
 
 -- through happenings, one pending table becomes another: all of them are ends, of requests that it loses, or one is an opening, of a
 -- request that it gains; counted over the keys that p holds of
@@ -183,15 +185,15 @@ module _ (p : Key → Bool) where
   openNow-snoc [] x = omega arith
   openNow-snoc (e ∷ es) x = omega (arith, openNow-snoc es x)
 
-  openNow-onAt : (i : ℕ) (g : Entry → Entry) (es : List Entry) (e : Entry) → entryAt i es ≡ some e
+  openNow-onAt : (i : ℕ) (g : Entry → Entry) (es : List Entry) (e : Entry) → atPlace i es ≡ some e
       → openNow p (onAt i g es) + openIn p e ≡ openNow p es + openIn p (g e)
-  unfolding openNow onAt entryAt
+  unfolding openNow onAt atPlace
   openNow-onAt i g [] e w = absurd (Option·none-ne-some e w)
   openNow-onAt zero g (x ∷ es) e w = let z : x ≡ e = cc in rw z (omega arith)
   openNow-onAt (suc i) g (x ∷ es) e w = omega (arith, openNow-onAt i g es e w)
 
-  openNow-without : (i : ℕ) (es : List Entry) (e : Entry) → entryAt i es ≡ some e → openNow p (without i es) + openIn p e ≡ openNow p es
-  unfolding openNow without entryAt
+  openNow-without : (i : ℕ) (es : List Entry) (e : Entry) → atPlace i es ≡ some e → openNow p (without i es) + openIn p e ≡ openNow p es
+  unfolding openNow without atPlace
   openNow-without i [] e w = absurd (Option·none-ne-some e w)
   openNow-without zero (x ∷ es) e w = let z : x ≡ e = cc in rw z (omega arith)
   openNow-without (suc i) (x ∷ es) e w = omega (arith, openNow-without i es e w)
@@ -276,7 +278,7 @@ module _ (p : Key → Bool) where
         (omega (arith, openNow-snoc (n .pending) (newEntry now n a c h), openIn-new now n a c h (g .low) l))
 
     -- an Interest that finds its entry begins a request, or renews one
-    joins-moves : (a : Arrival) (e : Entry) → GoodFace faces n (a .face) → entryAt (entryOf n (a .ask)) (n .pending) ≡ some e
+    joins-moves : (a : Arrival) (e : Entry) → GoodFace faces n (a .face) → atPlace (entryOf n (a .ask)) (n .pending) ≡ some e
         → Moves p (n .pending) (asksAgain now n a (entryOf n (a .ask)) e .happenings) (asksAgain now n a (entryOf n (a .ask)) e .node .pending)
     unfolding asksAgain
     joins-moves a e g w = go (isSome (slot (a .face) (e .requests))) refl
@@ -309,13 +311,13 @@ module _ (p : Key → Bool) where
         ends (each-opens (dataEnds now n f) (data-opens now n f) (only m (n .pending))) k
 
     -- a Nack that is noted does nothing to requests
-    marks-moves : (i f reason : ℕ) (e : Entry) → entryAt i (n .pending) ≡ some e
+    marks-moves : (i f reason : ℕ) (e : Entry) → atPlace i (n .pending) ≡ some e
         → Moves p (n .pending) [] (onAt i (λ _. withNack f reason e) (n .pending))
     marks-moves i f reason e w =
         moves-none _ _ (omega (arith, openNow-onAt i (λ _. withNack f reason e) (n .pending) e w, openIn-withNack f reason e))
 
     -- a Nack that leaves all out-records Nacked ends requests
-    nacks-moves : (i f reason : ℕ) (e : Entry) → entryAt i (n .pending) ≡ some e
+    nacks-moves : (i f reason : ℕ) (e : Entry) → atPlace i (n .pending) ≡ some e
         → Moves p (n .pending) (endsByNack now n i (withNack f reason e) .happenings) (endsByNack now n i (withNack f reason e) .node .pending)
     unfolding endsByNack settled
     nacks-moves i f reason e w = ends (opened-map now x (λ _. nacked) (λ _. nacked-ends) (peersOf n x)) (go (isIdle (withoutPeer n x)) refl)

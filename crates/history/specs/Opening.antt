@@ -9,10 +9,10 @@ use mathlib.Core.Logic.{_⊎_, inl, inr, ⊎-elim}
 use mathlib.Core.Option.{none, some, Option·none-ne-some}
 use native.Mathlib.Omega.{arith}
 use Rattle.laws.specs.Pick.{pick}
-use Rattle.rules.specs.Outcome.{opened, Happening}
 use Rattle.history.specs.Count.{one, howMany, howMany-le, howMany-sum}
 use Rattle.history.specs.Key.{Key, keyOf, isFate, isEnd, counted, ended}
 use Rattle.history.specs.Turns.{turns, Legal, legal-split, legal-at, legal-counts}
+use Rattle.records.specs.Happening.{opened, Happening}
 
 -- the last happening of a request in a list, which is an opening: what stands before it, it, and what stands since
 pub record Opening (q : Key → Bool) (s : List Happening) : Type 0 where

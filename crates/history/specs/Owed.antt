@@ -21,8 +21,8 @@ use Rattle.records.specs.Slots.{slot, Held, heldFrom, held, only}
 use Rattle.records.specs.Entry.{Request, Entry, withRequests, isLive, ifLive, agedEntry, matches}
 use Rattle.records.specs.Stored.{Stored, serves, Hit, lookup}
 use Rattle.rules.specs.Node.{Node, What, packet, Event}
-use Rattle.rules.specs.Outcome.{interest, dat, nack, Send, answered, happens, Outcome, quiet, nackFor}
-use Rattle.rules.specs.Ageing.{agedPending, aged, ageing, stays}
+use Rattle.rules.specs.Outcome.{interest, dat, nack, Send, Outcome, quiet, nackFor}
+use Rattle.rules.specs.Ageing.{aged, ageing}
 use Rattle.rules.specs.Interest.{Arrival, sendsOn, forwards, opensEntry, asksAgain, served}
 use Rattle.rules.specs.Nack.{peersOf, nackOf, endsByNack}
 use Rattle.rules.specs.Command.{closeStep}
@@ -35,6 +35,8 @@ use Rattle.history.specs.Holding.{slot-held}
 use Rattle.history.specs.Becomes.{HoldsInterest, HoldsData, arrival, Past, Becomes, ignored, taken, becomes, asked, brought}
 use Rattle.history.specs.Becomes as case
 use Rattle.history.specs.Arrives.{Arrives, interest-arrives, data-arrives}
+use Rattle.records.specs.Happening.{answered, happens}
+use Rattle.records.specs.Ageing.{stays, agedPending}
 
 -- the event e brings an Interest on the face of the send s, nothing happens but expiries, and the bytes are those of a stored Data that
 -- serves that Interest now (`serves-says` spells that out)

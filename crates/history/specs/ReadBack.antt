@@ -28,16 +28,16 @@ use Rattle.writing.specs.InterestBack.{lower, asks-back}
 use Rattle.writing.specs.BareBack.{data-back}
 use Rattle.writing.specs.NackBack.{request, nack-back}
 use Rattle.records.specs.Class.{Class}
-use Rattle.records.specs.Slots.{noSlots, slot, setSlot}
+use Rattle.records.specs.Slots.{noSlots, slot, setSlot, atPlace}
 use Rattle.records.specs.Face.{Face, isPeer}
-use Rattle.records.specs.Entry.{Request, Entry, withRequests, withSent, isLive, ifLive, agedEntry}
+use Rattle.records.specs.Entry.{Request, Entry, withRequests, withSent, isLive, ifLive, agedEntry, withNack}
 use Rattle.rules.specs.Node.{Node, emptyNode, What, packet, clock, openFace, closeFace, setRoute, dropRoute, addHop, dropHop, Event}
 use Rattle.rules.specs.Outcome.{Kind, Send, Outcome, quiet, nackFor}
 use Rattle.rules.specs.Outcome as out
-use Rattle.rules.specs.Ageing.{stays, agedPending, aged}
-use Rattle.rules.specs.Interest.{Arrival, requestOf, entryAt, newEntry, opensEntry, withRequest, sentOn, asksAgain, served}
+use Rattle.rules.specs.Ageing.{aged}
+use Rattle.rules.specs.Interest.{Arrival, requestOf, newEntry, opensEntry, withRequest, sentOn, asksAgain, served}
 use Rattle.rules.specs.Data.{satisfies}
-use Rattle.rules.specs.Nack.{withNack, withoutPeers, withoutPeer, settled, endsByNack}
+use Rattle.rules.specs.Nack.{withoutPeers, withoutPeer, settled, endsByNack}
 use Rattle.rules.specs.Command.{withoutFace, closeStep}
 use Rattle.rules.specs.Step.{after, step, run}
 use Rattle.history.specs.Every.{not-none, All, nothing, both, Some, here as first, there as later, In, all-mono, all-only, all-map, all-snoc, all-onAt, all-without, all-in, some-left, some-right, some-mono}
@@ -48,6 +48,7 @@ use Rattle.history.specs.Arrives.{bareOf, Arrives, interest-arrives}
 use Rattle.history.specs.Names.{interest-size}
 use Rattle.history.specs.ShapeKept.{reached}
 use Rattle.history.specs.Readable.{Forwarded, PassedOn, Kept, Refusing, Ending, Readable, BroughtBy, run-readable, store-brought}
+use Rattle.records.specs.Ageing.{stays, agedPending}
 
 -- the packet of an event, if it is one, is bytes
 abbrev pub OfBytes : What → Type 0
@@ -219,13 +220,13 @@ module _ (faces now : ℕ) (n : Node) (k : AllNarrow n) where
       all-onAt i _ (λ y h. set-narrow (a .face) (some (requestOf now a)) (y .requests) (λ r q. let z : requestOf now a ≡ r = cc in rw (← z) b) h) k
 
   -- a Nack
-  marked-narrow : (i f r : ℕ) (e : Entry) → entryAt i (n .pending) ≡ some e
+  marked-narrow : (i f r : ℕ) (e : Entry) → atPlace i (n .pending) ≡ some e
       → All (λ y. Narrow (y .requests)) (onAt i (λ _. withNack f r e) (n .pending))
   unfolding withNack withSent
   marked-narrow i f r e q = all-onAt i _ (λ y h. all-in k (entry-in i (n .pending) e q)) k
 
   -- a Nack that ends requests
-  nacked-narrow : (i f r : ℕ) (e : Entry) → entryAt i (n .pending) ≡ some e → AllNarrow (endsByNack now n i (withNack f r e) .node)
+  nacked-narrow : (i f r : ℕ) (e : Entry) → atPlace i (n .pending) ≡ some e → AllNarrow (endsByNack now n i (withNack f r e) .node)
   unfolding endsByNack settled withoutPeer withNack withRequests withSent
   nacked-narrow i f r e q =
       pick-ind (All (λ y. Narrow (y .requests))) _ _ _ (λ _. all-without i k)

@@ -17,14 +17,14 @@ use Rattle.packets.specs.Shape.{Well}
 use Rattle.writing.specs.Written.{nackBytes, lowered}
 use Rattle.records.specs.Class.{Class}
 use Rattle.records.specs.Slots.{slot, held}
-use Rattle.records.specs.Entry.{Request, Entry, withSent, smallestReason}
+use Rattle.records.specs.Entry.{Request, Entry, withSent, smallestReason, withNack}
 use Rattle.records.specs.Stored.{Stored, Hit, others, stored, touched}
 use Rattle.rules.specs.Node.{Node, emptyNode, What, packet, Event, mostStored}
 use Rattle.rules.specs.Outcome.{Kind, interest, dat, nack, Send, Outcome, quiet, nackFor}
 use Rattle.rules.specs.Ageing.{aged}
 use Rattle.rules.specs.Interest.{sendsOn, forwards, opensEntry, asksAgain, served}
 use Rattle.rules.specs.Data.{storedAs, satisfies}
-use Rattle.rules.specs.Nack.{withNack, peersOf, nackOf, settled, endsByNack}
+use Rattle.rules.specs.Nack.{peersOf, nackOf, settled, endsByNack}
 use Rattle.rules.specs.Command.{closeStep}
 use Rattle.rules.specs.Step.{after, step, run}
 use Rattle.history.specs.Every.{All, nothing, both, Some, here, In, all-mono, all-map, all-in, all-and, all-snoc, all-only, all-without, at-in, some-left, some-right}

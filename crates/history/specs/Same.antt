@@ -7,9 +7,9 @@ use borrow.Author.Tests.{eqb-true, eq-eqb}
 use Rattle.names.specs.Name.{sameBytes}
 use Rattle.names.specs.SameLaws.{both, same-equal, same-refl}
 use Rattle.records.specs.Class.{Class, alarm, monitoring, bulk, noClass, classNumber, isClass}
-use Rattle.rules.specs.Outcome.{Happening}
 use Rattle.history.specs.Known.{flag-equal, flag-refl}
 use Rattle.history.specs.Key.{keyOf, like}
+use Rattle.records.specs.Happening.{Happening}
 
 -- whether two classes are the same
 unfoldable pub sameClass : Class → Class → Bool

@@ -15,19 +15,19 @@ use Rattle.laws.specs.Tab.{onAt, without}
 use Rattle.names.specs.SameLaws as names
 use Rattle.packets.specs.Meaning.{Ask, Offer}
 use Rattle.packets.specs.Shape.{Well}
-use Rattle.records.specs.Slots.{setSlot, only}
+use Rattle.records.specs.Slots.{setSlot, only, atPlace}
 use Rattle.records.specs.Face.{Face, isOpen}
 use Rattle.records.specs.Class.{Class, classOf}
 use Rattle.records.specs.Route.{Route}
 use Rattle.records.specs.Line.{Line}
 use Rattle.records.specs.Stored.{Hit}
-use Rattle.records.specs.Entry.{Entry, withRequests, withSent, isIdle, usedBy, roomTaken}
+use Rattle.records.specs.Entry.{Entry, withRequests, withSent, isIdle, usedBy, roomTaken, withNack}
 use Rattle.rules.specs.Node.{Node, What, Event, emptyNode, mostEntries, mostDead, withPending, withRoutes, withFaces}
 use Rattle.rules.specs.Outcome.{Outcome, quiet, nackFor}
 use Rattle.rules.specs.Ageing.{aged}
-use Rattle.rules.specs.Interest.{Arrival, eligible, newEntry, noRoom, entryAt, entryOf, opensEntry, withRequest, resends, sentOn, asksAgain, served}
+use Rattle.rules.specs.Interest.{Arrival, eligible, newEntry, noRoom, entryOf, opensEntry, withRequest, resends, sentOn, asksAgain, served}
 use Rattle.rules.specs.Data.{storedAs, satisfies}
-use Rattle.rules.specs.Nack.{withNack, withoutPeer, settled, endsByNack}
+use Rattle.rules.specs.Nack.{withoutPeer, settled, endsByNack}
 use Rattle.rules.specs.Command.{faceOf, closeStep}
 use Rattle.rules.specs.Step.{badFace, after, step, run}
 use Rattle.history.specs.Every.{nothing, all-onAt, all-in}
@@ -80,7 +80,7 @@ module _ (faces now : ℕ) (n : Node) (s : Shaped faces n) where
 
   -- an Interest that opens an entry
   opened-shaped : (a : Arrival) (c : Class) (h : ℕ) → Well (a .ask .name) → GoodFace faces n (a .face) → isOpen (n .faces) h ≡ true
-      → entryAt (entryOf n (a .ask)) (n .pending) ≡ none → noRoom n (newEntry now n a c h) ≡ false → Shaped faces (opensEntry now n a c h .node)
+      → atPlace (entryOf n (a .ask)) (n .pending) ≡ none → noRoom n (newEntry now n a c h) ≡ false → Shaped faces (opensEntry now n a c h .node)
   unfolding opensEntry entryOf noRoom newEntry
   opened-shaped a c h k g o q r =
       with-pending (n .pending ++ (newEntry now n a c h ∷ []))
@@ -109,7 +109,7 @@ module _ (faces now : ℕ) (n : Node) (s : Shaped faces n) where
       (λ h q. may-open n a _ h (resends-may now n a (withRequest now a e) h q)))
 
   -- a Nack for an out-record
-  marked-shaped : (i f r : ℕ) (e : Entry) → entryAt i (n .pending) ≡ some e
+  marked-shaped : (i f r : ℕ) (e : Entry) → atPlace i (n .pending) ≡ some e
       → PendingShaped faces (n .faces) (onAt i (λ _. withNack f r e) (n .pending))
   unfolding withNack withSent
   marked-shaped i f r e q =
@@ -118,7 +118,7 @@ module _ (faces now : ℕ) (n : Node) (s : Shaped faces n) where
       (all-onAt i (withNack f r) (λ y t. nacked-entry faces (n .faces) f r y t) (s .pending .each)))
 
   -- a Nack that ends requests
-  settled-pending : (i f r : ℕ) (e : Entry) → entryAt i (n .pending) ≡ some e
+  settled-pending : (i f r : ℕ) (e : Entry) → atPlace i (n .pending) ≡ some e
       → PendingShaped faces (n .faces)
       (pick (isIdle (withoutPeer n (withNack f r e))) (without i (n .pending)) (onAt i (λ _. withoutPeer n (withNack f r e)) (n .pending)))
   unfolding withNack withSent withoutPeer withRequests
@@ -134,7 +134,7 @@ module _ (faces now : ℕ) (n : Node) (s : Shaped faces n) where
       (rw same at (all-onAt i (λ _. withoutPeer n (withNack f r e)) (λ y t. shaped) (s .pending .each)))))
 
   -- the node that it leaves
-  settled-shaped : (i f r : ℕ) (e : Entry) → entryAt i (n .pending) ≡ some e → Shaped faces (endsByNack now n i (withNack f r e) .node)
+  settled-shaped : (i f r : ℕ) (e : Entry) → atPlace i (n .pending) ≡ some e → Shaped faces (endsByNack now n i (withNack f r e) .node)
   unfolding endsByNack settled
   settled-shaped i f r e q = record {
     size = s .size;

@@ -3,16 +3,17 @@
 -- Assumes nothing.
 use Prim.Native.Nat.{ℕ}
 use mathlib.Core.Path.{_≡_, refl, sym, _∙_, ap}
-use mathlib.Core.List.{List, [], _∷_, _++_}
+use mathlib.Core.List.{List, [], _∷_}
 use native.Mathlib.Omega.{arith}
 use Rattle.answers.specs.declared.Answer.{Answer}
 use Rattle.answers.specs.Number.{numberOf}
 use Rattle.rules.specs.Node.{Node, emptyNode, What, packet, clock, openFace, setRoute, addHop, Event}
-use Rattle.rules.specs.Outcome.{Outcome, quiet, opened}
+use Rattle.rules.specs.Outcome.{Outcome, quiet}
 use Rattle.rules.specs.Step.{step, outcomes, history}
 use Rattle.rules.specs.Compute.{computed}
-use Rattle.history.specs.Key.{counted, ofFace, keyOf, isFate, fateNumber}
+use Rattle.history.specs.Key.{counted, ofFace, keyOf, isFate}
 use Rattle.history.specs.Count.{howMany}
+use Rattle.records.specs.Happening.{opened, fateNumber}
 
 -- a node of sixteen faces, whatever it does with an event, that meets the rules
 abbrev Meets : (Event → Node → Outcome) → Type 0

@@ -18,23 +18,24 @@ use Rattle.names.specs.Name.{sameBytes}
 use Rattle.names.specs.SameLaws.{same-equal, same-not}
 use Rattle.packets.specs.Shape.{Well}
 use Rattle.records.specs.Class.{Class}
-use Rattle.records.specs.Slots.{noSlots, slot, setSlot, isSome, only, each}
+use Rattle.records.specs.Slots.{noSlots, slot, setSlot, isSome, only, each, atPlace}
 use Rattle.records.specs.Face.{Face, isOpen, isPeer}
 use Rattle.records.specs.Route.{Route, routeOf, withClass, newRoute, withHop}
-use Rattle.records.specs.Entry.{Request, Sent, Entry, isKnown, withRequests, withSent, isIdle, ifLive, agedEntry, roomTaken}
+use Rattle.records.specs.Entry.{Request, Sent, Entry, isKnown, withRequests, withSent, isIdle, ifLive, agedEntry, roomTaken, markNacked, withNack}
 use Rattle.records.specs.Stored.{Stored, Hit, others, roomFor, stored, touched}
 use Rattle.records.specs.Line.{Line, joined, joinedAll}
 use Rattle.rules.specs.Node.{Node, mostRoutes, mostEntries, mostStored, mostDead}
-use Rattle.rules.specs.Interest.{Arrival, requestOf, sentOf, entryAt, newEntry, withRequest}
-use Rattle.rules.specs.Nack.{markNacked, withNack, withoutPeers, withoutPeer}
+use Rattle.rules.specs.Interest.{Arrival, requestOf, sentOf, newEntry, withRequest}
+use Rattle.rules.specs.Nack.{withoutPeers, withoutPeer}
 use Rattle.rules.specs.Command.{withoutFace}
-use Rattle.rules.specs.Ageing.{joinDead, stays, agedPending}
+use Rattle.rules.specs.Ageing.{joinDead}
 use Rattle.history.specs.Every.{not-none, at-in, All, all-mono, all-only, only-test, all-and, all-map, all-snoc, all-onAt, all-without, all-drop, all-in}
 use Rattle.history.specs.Known.{differs, entry-none, known-same}
 use Rattle.history.specs.Apart.{Apart, apart-only, apart-map, apart-onAt, apart-snoc, apart-without, apart-drop, none-found, others-fail, apart-other}
 use Rattle.history.specs.Holding.{set-some, unset-some, set-same, none-some, length-setSlot, length-noSlots, not-empty}
 use Rattle.history.specs.Room.{room-only, room-map, room-onAt, room-without}
 use Rattle.history.specs.Shape.{AtOpen, EntryShaped, RouteShaped, StoredShaped, OtherStored, RoutesShaped, PendingShaped, StoreShaped}
+use Rattle.records.specs.Ageing.{stays, agedPending}
 
 -- ---- open faces
 
@@ -244,7 +245,7 @@ module _ (faces : ℕ) (fs : List (Option Face)) where
 
   -- with an entry more, which is not known, and for which there is room
   pub opened-pending : (es : List Entry) (x : Entry) → PendingShaped faces fs es → EntryShaped faces fs x
-      → entryAt (indexOf (isKnown (x .name) (x .canBePrefix) (x .mustBeFresh)) es) es ≡ none → roomTaken (es ++ (x ∷ [])) ≤ mostEntries
+      → atPlace (indexOf (isKnown (x .name) (x .canBePrefix) (x .mustBeFresh)) es) es ≡ none → roomTaken (es ++ (x ∷ [])) ≤ mostEntries
       → PendingShaped faces fs (es ++ (x ∷ []))
   opened-pending es x s k q r = record {
     each = all-snoc (s .each) k;

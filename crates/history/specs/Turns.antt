@@ -8,9 +8,9 @@ use mathlib.Core.List.{List, [], _∷_, _++_}
 use mathlib.Core.Option.{Option, none, some, Option·none-ne-some}
 use native.Mathlib.Omega.{arith}
 use Rattle.laws.specs.Pick.{pick}
-use Rattle.rules.specs.Outcome.{opened, Happening}
 use Rattle.history.specs.Count.{one, one-le, howMany}
 use Rattle.history.specs.Key.{Key, keyOf, isFate, isEnd, counted, ended}
+use Rattle.records.specs.Happening.{opened, Happening}
 
 -- whether a request is open after happenings, where b says whether it is before them: an opening has to find it not open and an end has
 -- to find it open, else there is no answer. The request is the one whose key q holds of.

@@ -107,6 +107,23 @@ smallestReason (h ∷ hs) = lesserReason (go (h .what .nacked)) (smallestReason 
     go none = 0
     go (some n) = n
 
+-- the out-record with a Nack's reason
+unfoldable pub markNacked : ℕ → Option Sent → Option Sent
+markNacked reason none = none
+markNacked reason (some s) = some (record { nonce = s .nonce; time = s .time; nacked = some (reasonOf reason) })
+
+-- the entry with a face's out-record Nacked
+unfoldable pub withNack : ℕ → ℕ → Entry → Entry
+withNack f reason e = withSent (setSlot f (markNacked reason (slot f (e .sent))) (e .sent)) e
+
+-- whether all out-records are Nacked
+unfoldable pub allNacked : Entry → Bool
+allNacked e = not (anyOf (λ h. not (wasNacked h)) (held (e .sent)))
+
+-- whether a face has an out-record with a nonce in an entry
+unfoldable pub sentNonce : ℕ → ℕ → Entry → Bool
+sentNonce f nonce e = holds (λ s. eqb (s .nonce) nonce) (slot f (e .sent))
+
 -- how many entries have a class that p holds of
 unfoldable pub usedBy : (Class → Bool) → List Entry → ℕ
 usedBy p es = length (only (λ e. p (e .cls)) es)

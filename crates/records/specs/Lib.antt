@@ -5,3 +5,5 @@ pub mod Route
 pub mod Entry
 pub mod Stored
 pub mod Line
+pub mod Happening
+pub mod Ageing

@@ -10,7 +10,7 @@ use Rattle.laws.specs.Pick.{pick}
 use Rattle.laws.specs.Tab.{indexOf, onAt, without}
 use Rattle.names.specs.Name.{sameBytes, prefixOf}
 use Rattle.records.specs.Class.{Class}
-use Rattle.records.specs.Slots.{noSlots, slot, setSlot, Held, held, only}
+use Rattle.records.specs.Slots.{given, atPlace, noSlots, slot, setSlot, Held, held, only}
 
 pub record Route : Type 0 where
   pub name : List ℕ
@@ -32,6 +32,10 @@ newRoute n p c = record { name = p; cls = c; hops = noSlots n }
 -- a route with the cost of a hop set, or the hop dropped
 unfoldable pub withHop : ℕ → Option ℕ → Route → Route
 withHop f x r = record { name = r .name; cls = r .cls; hops = setSlot f x (r .hops) }
+
+-- the hop of a face in the route at a place
+unfoldable pub hopAt : ℕ → ℕ → List Route → Option ℕ
+hopAt f i rs = given none (λ r. slot f (r .hops)) (atPlace i rs)
 
 -- the longer of a route and what was found after it
 unfoldable pub longer : Route → Option Route → Option Route

@@ -31,6 +31,17 @@ unfoldable pub holds : {A : Type 0} → (A → Bool) → Option A → Bool
 holds p none = false
 holds p (some a) = p a
 
+-- what f makes of what is there, or d
+unfoldable pub given : {A B : Type 0} → B → (A → B) → Option A → B
+given d f none = d
+given d f (some a) = f a
+
+-- the element at a place, if there is one
+unfoldable pub atPlace : {A : Type 0} → ℕ → List A → Option A
+atPlace i [] = none
+atPlace zero (a ∷ l) = some a
+atPlace (suc i) (a ∷ l) = atPlace i l
+
 -- a face, and what is kept for it
 pub record Held (A : Type 0) : Type 0 where
   pub face : ℕ

@@ -13,8 +13,9 @@ use Rattle.writing.specs.Written.{nackBytes}
 use Rattle.records.specs.Class.{classNumber}
 use Rattle.records.specs.Slots.{each}
 use Rattle.rules.specs.Node.{emptyNode, What, packet, clock, openFace, setRoute, addHop, Event}
-use Rattle.rules.specs.Outcome.{Kind, interest, dat, nack, Send, Fate, opened, answered, nacked, expired, closed, selfMet, Happening, Outcome}
+use Rattle.rules.specs.Outcome.{Kind, interest, dat, nack, Send, Outcome}
 use Rattle.rules.specs.Compute.{computed}
+use Rattle.records.specs.Happening.{Fate, opened, answered, nacked, expired, closed, selfMet, Happening}
 
 -- what a case shows: what bytes mean, bytes, or the lines of a run
 pub data Shown : Type 0 where

@@ -1,7 +1,7 @@
 -- Document 01, "Faces and routes".
 -- Assumes nothing.
-use Prim.Native.Nat.{ℕ, zero, suc}
-use mathlib.Core.Bool.{Bool, true, false, _&&_, _||_, not}
+use Prim.Native.Nat.{ℕ}
+use mathlib.Core.Bool.{_||_, not}
 use mathlib.Core.List.{List, [], _∷_, _++_, map}
 use mathlib.Core.Option.{Option, none, some}
 use lib.ListN.{length}
@@ -11,15 +11,16 @@ use Rattle.laws.specs.Pick.{pick}
 use Rattle.laws.specs.Tab.{onAt, without}
 use Rattle.names.specs.declared.component.Counted.{Counted}
 use Rattle.names.specs.Name.{counted}
-use Rattle.records.specs.Class.{Class, classOf, isClass}
-use Rattle.records.specs.Slots.{slot, setSlot, isSome, Held, held, only, each}
+use Rattle.records.specs.Class.{classOf, isClass}
+use Rattle.records.specs.Slots.{slot, setSlot, isSome, only, each}
 use Rattle.records.specs.Face.{Link, pointToPoint, multiAccess, adHoc, Face, isOpen}
-use Rattle.records.specs.Route.{Route, routeOf, withClass, newRoute, withHop}
+use Rattle.records.specs.Route.{routeOf, withClass, newRoute, withHop, hopAt}
 use Rattle.records.specs.Entry.{Request, Sent, Entry, withRequests, withSent, isIdle}
 use Rattle.records.specs.Line.{Line}
 use Rattle.rules.specs.Node.{Node, mostRoutes, printOf, withFaces, withRoutes}
-use Rattle.rules.specs.Outcome.{closed, Happening, happens, Outcome, quiet}
+use Rattle.rules.specs.Outcome.{Outcome, quiet}
 use Rattle.rules.specs.Ageing.{buried, joinDead}
+use Rattle.records.specs.Happening.{closed, Happening, happens}
 
 -- "5, 6, name size (4)": a command by its prefix, which may be empty
 unfoldable pub byPrefix : Node → List ℕ → Outcome → Outcome
@@ -108,12 +109,6 @@ addHopStep n f cost p =
     byPrefix n p
     (pick (ltb 65535 cost) (quiet Answer.BadSetting n)
     (onRoute n p (λ i. quiet Answer.Done (withRoutes n (onAt i (withHop f (some cost)) (n .routes))))))
-
--- the hop of a face in the route at a place
-unfoldable pub hopAt : ℕ → ℕ → List Route → Option ℕ
-hopAt f i [] = none
-hopAt f zero (r ∷ rs) = slot f (r .hops)
-hopAt f (suc i) (r ∷ rs) = hopAt f i rs
 
 -- dropping a hop
 unfoldable pub dropHopStep : Node → ℕ → List ℕ → Outcome

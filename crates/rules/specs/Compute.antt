@@ -14,24 +14,26 @@ use Rattle.packets.specs.Bare.{hopIn, bareRead}
 use Rattle.packets.specs.Meaning.{askOf, offerOf, heard}
 use Rattle.writing.specs.Written.{nackBytes, lowered}
 use Rattle.records.specs.Class.{classOf, classNumber, isClass, lower}
-use Rattle.records.specs.Entry.{isKnown, withRequests, withSent, isIdle, isLive, ifLive, agedEntry, hasNonce, ownNonce, newestOf, isSuppressed, matches, reasonOf, wasNacked, lesserReason, smallestReason, usedBy, isAlarm, isMonitoring, isBulk, isOther, roomTaken}
+use Rattle.records.specs.Entry.{isKnown, withRequests, withSent, isIdle, isLive, ifLive, agedEntry, hasNonce, ownNonce, newestOf, isSuppressed, matches, reasonOf, wasNacked, lesserReason, smallestReason, usedBy, isAlarm, isMonitoring, isBulk, isOther, roomTaken, markNacked, withNack, allNacked, sentNonce}
 use Rattle.records.specs.Face.{isPointToPoint, isAdHoc, isFace, isOpen, isLocalFace, isPeer, isAdHocFace}
 use Rattle.records.specs.Line.{joined, joinedAll, counts, isDead}
-use Rattle.records.specs.Route.{routeOf, withClass, newRoute, withHop, longer, longest, lessBy, leastBy}
-use Rattle.records.specs.Slots.{noSlots, slot, setSlot, isSome, holds, heldFrom, held, anyOf, only, each, isEmpty}
+use Rattle.records.specs.Route.{routeOf, withClass, newRoute, withHop, longer, longest, lessBy, leastBy, hopAt}
+use Rattle.records.specs.Slots.{given, noSlots, slot, setSlot, isSome, holds, heldFrom, held, anyOf, only, each, isEmpty, atPlace}
 use Rattle.records.specs.Stored.{others, roomFor, stored, serves, isBefore, earlier, lookupFrom, lookup, touched}
-use Rattle.rules.specs.Ageing.{buried, joinDead, expiries, stays, agedPending, agedLines, aged, ageing}
-use Rattle.rules.specs.Command.{byPrefix, linkOf, faceOf, openStep, ownLine, withoutFace, closingLines, closingEnds, closeStep, setRouteStep, onRoute, dropRouteStep, addHopStep, hopAt, dropHopStep}
+use Rattle.rules.specs.Ageing.{buried, joinDead, agedLines, aged, ageing}
+use Rattle.rules.specs.Command.{byPrefix, linkOf, faceOf, openStep, ownLine, withoutFace, closingLines, closingEnds, closeStep, setRouteStep, onRoute, dropRouteStep, addHopStep, dropHopStep}
 use Rattle.rules.specs.Data.{storedAs, isSelfMet, fateOf, dataEnds, classesOn, lowestOf, copyOn, numbersFrom, copies, satisfies, dataStep}
-use Rattle.rules.specs.Interest.{spent, eligible, requestOf, sentOf, eligibleHops, cheapest, entryOf, entryLoops, entryAt, loops, forwards, newEntry, opens, opensEntry, noRoom, mayOpen, routed, served, asksAnew, fromLocalFace, nextHop, withRequest, resends, sentOn, sendsOn, asksAgain, asksEntry, hopIsZero, outOfScope, interestStep}
-use Rattle.rules.specs.Nack.{markNacked, withNack, allNacked, withoutPeers, peersOf, nackOf, withoutPeer, settled, endsByNack, nackedEntry, sentNonce, nackStep}
+use Rattle.rules.specs.Interest.{spent, eligible, requestOf, sentOf, eligibleHops, cheapest, entryOf, entryLoops, loops, forwards, newEntry, opens, opensEntry, noRoom, mayOpen, routed, served, asksAnew, fromLocalFace, nextHop, withRequest, resends, sentOn, sendsOn, asksAgain, asksEntry, hopIsZero, outOfScope, interestStep}
+use Rattle.rules.specs.Nack.{withoutPeers, peersOf, nackOf, withoutPeer, settled, endsByNack, nackedEntry, nackStep}
 use Rattle.rules.specs.Node.{emptyNode, printOf}
-use Rattle.rules.specs.Outcome.{happens, quiet, routeClass, nameClass, nackFor}
+use Rattle.rules.specs.Outcome.{quiet, routeClass, nameClass, nackFor}
 use Rattle.rules.specs.Step.{bareStep, packetStep, whatStep, badFace, after, badTime, step, run, outcomes, history}
 use Rattle.rules.specs.Node.{Node, Event}
 use Rattle.rules.specs.Outcome.{Outcome}
+use Rattle.records.specs.Happening.{happens}
+use Rattle.records.specs.Ageing.{buriedBy, expiries, stays, agedPending}
 
 -- the outcomes of a run, as they compute
 unfoldable pub computed : ℕ → ℕ → List Event → Node → List Outcome
-unfolding pick indexOf onAt without number element components counted sameBytes prefixOf underLocalhost underLocalhop canonicalOrder fingerprint headerRead hopIn bareRead askOf offerOf heard nackBytes lowered classOf classNumber isClass lower isKnown withRequests withSent isIdle isLive ifLive agedEntry hasNonce ownNonce newestOf isSuppressed matches reasonOf wasNacked lesserReason smallestReason usedBy isAlarm isMonitoring isBulk isOther roomTaken isPointToPoint isAdHoc isFace isOpen isLocalFace isPeer isAdHocFace joined joinedAll counts isDead routeOf withClass newRoute withHop longer longest lessBy leastBy noSlots slot setSlot isSome holds heldFrom held anyOf only each isEmpty others roomFor stored serves isBefore earlier lookupFrom lookup touched buried joinDead expiries stays agedPending agedLines aged ageing byPrefix linkOf faceOf openStep ownLine withoutFace closingLines closingEnds closeStep setRouteStep onRoute dropRouteStep addHopStep hopAt dropHopStep storedAs isSelfMet fateOf dataEnds classesOn lowestOf copyOn numbersFrom copies satisfies dataStep spent eligible requestOf sentOf eligibleHops cheapest entryOf entryLoops entryAt loops forwards newEntry opens opensEntry noRoom mayOpen routed served asksAnew fromLocalFace nextHop withRequest resends sentOn sendsOn asksAgain asksEntry hopIsZero outOfScope interestStep markNacked withNack allNacked withoutPeers peersOf nackOf withoutPeer settled endsByNack nackedEntry sentNonce nackStep emptyNode printOf happens quiet routeClass nameClass nackFor bareStep packetStep whatStep badFace after badTime step run outcomes history
+unfolding pick indexOf onAt without number element components counted sameBytes prefixOf underLocalhost underLocalhop canonicalOrder fingerprint headerRead hopIn bareRead askOf offerOf heard nackBytes lowered classOf classNumber isClass lower isKnown withRequests withSent isIdle isLive ifLive agedEntry hasNonce ownNonce newestOf isSuppressed matches reasonOf wasNacked lesserReason smallestReason usedBy isAlarm isMonitoring isBulk isOther roomTaken isPointToPoint isAdHoc isFace isOpen isLocalFace isPeer isAdHocFace joined joinedAll counts isDead routeOf withClass newRoute withHop longer longest lessBy leastBy noSlots slot setSlot isSome holds given heldFrom held anyOf only each isEmpty others roomFor stored serves isBefore earlier lookupFrom lookup touched buriedBy buried joinDead expiries stays agedPending agedLines aged ageing byPrefix linkOf faceOf openStep ownLine withoutFace closingLines closingEnds closeStep setRouteStep onRoute dropRouteStep addHopStep hopAt dropHopStep storedAs isSelfMet fateOf dataEnds classesOn lowestOf copyOn numbersFrom copies satisfies dataStep spent eligible requestOf sentOf eligibleHops cheapest entryOf entryLoops atPlace loops forwards newEntry opens opensEntry noRoom mayOpen routed served asksAnew fromLocalFace nextHop withRequest resends sentOn sendsOn asksAgain asksEntry hopIsZero outOfScope interestStep markNacked withNack allNacked withoutPeers peersOf nackOf withoutPeer settled endsByNack nackedEntry sentNonce nackStep emptyNode printOf happens quiet routeClass nameClass nackFor bareStep packetStep whatStep badFace after badTime step run outcomes history
 computed faces least es n = outcomes faces least es n

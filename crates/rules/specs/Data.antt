@@ -1,22 +1,22 @@
 -- Document 01, "Data, store, Nack": Data.
 -- Assumes nothing.
 use Prim.Native.Nat.{ℕ, suc}
-use mathlib.Core.Bool.{Bool, true, false, _&&_, not}
-use mathlib.Core.List.{List, [], _∷_, _++_, map}
-use mathlib.Core.Option.{Option, none, some}
+use mathlib.Core.Bool.{Bool, _&&_, not}
+use mathlib.Core.List.{List, [], _∷_, map}
 use lib.Dec.{eqb}
 use Rattle.answers.specs.declared.Answer.{Answer}
 use Rattle.laws.specs.Pick.{pick}
 use Rattle.packets.specs.Meaning.{Offer}
 use Rattle.records.specs.Class.{Class, lower}
-use Rattle.records.specs.Slots.{slot, isSome, Held, held, only, each, isEmpty}
+use Rattle.records.specs.Slots.{slot, isSome, held, only, each, isEmpty}
 use Rattle.records.specs.Face.{isAdHocFace}
-use Rattle.records.specs.Entry.{Request, Entry, matches}
+use Rattle.records.specs.Entry.{Entry, matches}
 use Rattle.records.specs.Stored.{Stored, stored}
 use Rattle.rules.specs.Node.{Node, mostStored}
-use Rattle.rules.specs.Outcome.{Kind, dat, Send, Fate, answered, selfMet, Happening, happens, Outcome, quiet}
+use Rattle.rules.specs.Outcome.{dat, Send, Outcome, quiet}
 use Rattle.rules.specs.Ageing.{buried, joinDead}
 use Rattle.rules.specs.Interest.{outOfScope}
+use Rattle.records.specs.Happening.{Fate, answered, selfMet, Happening, happens}
 
 -- the Data as it is stored
 unfoldable pub storedAs : ℕ → Offer → List ℕ → Stored

@@ -1,26 +1,26 @@
 -- Document 01, "Interest" and "Classes".
 -- Assumes nothing.
-use Prim.Native.Nat.{ℕ, zero, suc, _+_, _-_}
-use mathlib.Core.Bool.{Bool, true, false, _&&_, _||_, not}
-use mathlib.Core.List.{List, [], _∷_, _++_, map}
+use Prim.Native.Nat.{ℕ, _+_, _-_}
+use mathlib.Core.Bool.{Bool, false, _&&_, _||_, not}
+use mathlib.Core.List.{List, [], _∷_, _++_}
 use mathlib.Core.Option.{Option, none, some}
-use lib.ListN.{length, getD}
-use lib.Dec.{ltb, leb, eqb}
+use lib.ListN.{length}
+use lib.Dec.{ltb, eqb}
 use Rattle.answers.specs.declared.Answer.{Answer}
 use Rattle.laws.specs.Pick.{pick}
 use Rattle.laws.specs.Tab.{indexOf, onAt}
 use Rattle.names.specs.Name.{underLocalhost, underLocalhop}
-use Rattle.packets.specs.declared.bare.Hop.{Hop}
 use Rattle.packets.specs.Meaning.{Ask}
 use Rattle.records.specs.Class.{Class}
-use Rattle.records.specs.Slots.{noSlots, slot, setSlot, isSome, holds, Held, held, anyOf, only}
-use Rattle.records.specs.Face.{Face, isOpen, isLocalFace, isPeer, isAdHocFace}
+use Rattle.records.specs.Slots.{atPlace, noSlots, slot, setSlot, isSome, holds, Held, held, anyOf, only}
+use Rattle.records.specs.Face.{isOpen, isLocalFace, isPeer, isAdHocFace}
 use Rattle.records.specs.Route.{Route, longest, leastBy}
 use Rattle.records.specs.Entry.{Request, Sent, Entry, isKnown, withRequests, withSent, hasNonce, ownNonce, isSuppressed, roomTaken}
-use Rattle.records.specs.Stored.{Stored, Hit, lookup, touched}
+use Rattle.records.specs.Stored.{Hit, lookup, touched}
 use Rattle.records.specs.Line.{isDead}
 use Rattle.rules.specs.Node.{Node, mostEntries, printOf, withPending, withStore}
-use Rattle.rules.specs.Outcome.{Kind, interest, dat, Send, opened, Happening, happens, Outcome, quiet, nameClass, nackFor}
+use Rattle.rules.specs.Outcome.{interest, dat, Send, Outcome, quiet, nameClass, nackFor}
+use Rattle.records.specs.Happening.{opened, Happening, happens}
 
 -- an Interest that arrived: its face, what it means, and its bytes as it leaves
 pub record Arrival : Type 0 where
@@ -65,15 +65,9 @@ entryOf n i = indexOf (isKnown (i .name) (i .canBePrefix) (i .mustBeFresh)) (n .
 unfoldable pub entryLoops : Node → Arrival → Entry → Bool
 entryLoops n a e = not (isPeer (n .faces) (a .face) && ownNonce (a .face) (a .ask .nonce) e) && hasNonce (a .ask .nonce) e
 
--- the entry at a place, if there is one
-unfoldable pub entryAt : ℕ → List Entry → Option Entry
-entryAt i [] = none
-entryAt zero (e ∷ es) = some e
-entryAt (suc i) (e ∷ es) = entryAt i es
-
 -- "LOOP: a live fingerprint equals this one; or the entry has the nonce .."
 unfoldable pub loops : ℕ → Node → Arrival → Bool
-loops now n a = isDead now (printOf (a .ask .name) (a .ask .nonce)) (n .dead) || holds (entryLoops n a) (entryAt (entryOf n (a .ask)) (n .pending))
+loops now n a = isDead now (printOf (a .ask .name) (a .ask .nonce)) (n .dead) || holds (entryLoops n a) (atPlace (entryOf n (a .ask)) (n .pending))
 
 -- the send of an Interest
 unfoldable pub forwards : Arrival → Class → ℕ → Send
@@ -201,4 +195,4 @@ unfoldable pub interestStep : ℕ → Node → Arrival → Outcome
 interestStep now n a =
     pick (hopIsZero (a .ask .hop)) (quiet Answer.HopLimit n)
     (pick (outOfScope n (a .face) (a .ask .name)) (quiet Answer.Scope n)
-    (pick (loops now n a) (nackFor Answer.Loop 100 n (a .face) (a .ask)) (asksEntry now n a (entryAt (entryOf n (a .ask)) (n .pending)))))
+    (pick (loops now n a) (nackFor Answer.Loop 100 n (a .face) (a .ask)) (asksEntry now n a (atPlace (entryOf n (a .ask)) (n .pending)))))

@@ -1,35 +1,21 @@
 -- Document 01, "Data, store, Nack": Nack.
 -- Assumes nothing.
 use Prim.Native.Nat.{ℕ, suc}
-use mathlib.Core.Bool.{Bool, true, false, _&&_, _||_, not}
-use mathlib.Core.List.{List, [], _∷_, _++_, map}
+use mathlib.Core.List.{List, [], _∷_, map}
 use mathlib.Core.Option.{Option, none, some}
-use lib.Dec.{eqb}
 use Rattle.answers.specs.declared.Answer.{Answer}
 use Rattle.laws.specs.Pick.{pick}
 use Rattle.laws.specs.Tab.{onAt, without}
 use Rattle.packets.specs.Meaning.{Ask}
 use Rattle.writing.specs.Written.{nackBytes}
-use Rattle.records.specs.Slots.{slot, setSlot, holds, Held, held, anyOf, only}
+use Rattle.records.specs.Slots.{Held, held, only, atPlace}
 use Rattle.records.specs.Face.{Face, isPeer}
-use Rattle.records.specs.Entry.{Request, Sent, Entry, withRequests, withSent, isIdle, reasonOf, wasNacked, smallestReason}
+use Rattle.records.specs.Entry.{Request, Entry, withRequests, isIdle, smallestReason, withNack, allNacked, sentNonce}
 use Rattle.rules.specs.Node.{Node, withPending}
-use Rattle.rules.specs.Outcome.{Kind, nack, Send, nacked, Happening, happens, Outcome, quiet}
+use Rattle.rules.specs.Outcome.{nack, Send, Outcome, quiet}
 use Rattle.rules.specs.Ageing.{buried, joinDead}
-use Rattle.rules.specs.Interest.{entryAt, entryOf, outOfScope}
-
--- the out-record with a Nack's reason
-unfoldable pub markNacked : ℕ → Option Sent → Option Sent
-markNacked reason none = none
-markNacked reason (some s) = some (record { nonce = s .nonce; time = s .time; nacked = some (reasonOf reason) })
-
--- the entry with a face's out-record Nacked
-unfoldable pub withNack : ℕ → ℕ → Entry → Entry
-withNack f reason e = withSent (setSlot f (markNacked reason (slot f (e .sent))) (e .sent)) e
-
--- whether all out-records are Nacked
-unfoldable pub allNacked : Entry → Bool
-allNacked e = not (anyOf (λ h. not (wasNacked h)) (held (e .sent)))
+use Rattle.rules.specs.Interest.{entryOf, outOfScope}
+use Rattle.records.specs.Happening.{nacked, happens}
 
 -- a slot without its request, where the face k is point-to-point; the slots from face k on
 unfoldable pub withoutPeers : List (Option Face) → ℕ → List (Option Request) → List (Option Request)
@@ -77,13 +63,9 @@ endsByNack now n i e = record {
 unfoldable pub nackedEntry : ℕ → Node → ℕ → Entry → Outcome
 nackedEntry now n i e = pick (allNacked e) (endsByNack now n i e) (quiet Answer.Done (withPending n (onAt i (λ _. e) (n .pending))))
 
--- whether a face has an out-record with a nonce in an entry
-unfoldable pub sentNonce : ℕ → ℕ → Entry → Bool
-sentNonce f nonce e = holds (λ s. eqb (s .nonce) nonce) (slot f (e .sent))
-
 -- "STALE_NACK exactly when the face is not point-to-point, or has no out-record with this nonce in that entry."
 unfoldable pub nackStep : ℕ → Node → ℕ → ℕ → Ask → Outcome
-nackStep now n f reason i = pick (outOfScope n f (i .name)) (quiet Answer.Scope n) (pick (isPeer (n .faces) f) (go (entryAt (entryOf n i) (n .pending))) (quiet Answer.StaleNack n))
+nackStep now n f reason i = pick (outOfScope n f (i .name)) (quiet Answer.Scope n) (pick (isPeer (n .faces) f) (go (atPlace (entryOf n i) (n .pending))) (quiet Answer.StaleNack n))
   where
     go : Option Entry → Outcome
     go none = quiet Answer.StaleNack n

@@ -1,18 +1,16 @@
 -- What an event comes to: an answer, the node, what is sent, and what happened to requests.
 -- Assumes nothing.
 use Prim.Native.Nat.{ℕ}
-use mathlib.Core.Bool.{Bool}
-use mathlib.Core.List.{List, [], _∷_, _++_}
+use mathlib.Core.List.{List, [], _∷_}
 use mathlib.Core.Option.{Option, none, some}
 use Rattle.answers.specs.declared.Answer.{Answer}
 use Rattle.laws.specs.Pick.{pick}
 use Rattle.packets.specs.Meaning.{Ask}
 use Rattle.writing.specs.Written.{nackBytes}
 use Rattle.records.specs.Class.{Class, bulk}
-use Rattle.records.specs.Slots.{Held}
 use Rattle.records.specs.Face.{isPeer}
 use Rattle.records.specs.Route.{Route, longest}
-use Rattle.records.specs.Entry.{Request, Entry}
+use Rattle.records.specs.Happening.{Happening}
 use Rattle.rules.specs.Node.{Node}
 
 -- "kind (1 Interest, 2 Data, 3 Nack)"
@@ -28,46 +26,11 @@ pub record Send : Type 0 where
   pub cls : Class
   pub bytes : List ℕ
 
--- what becomes of a request
-pub data Fate : Type 0 where
-  opened : Fate
-  answered : Fate
-  nacked : Fate
-  expired : Fate
-  closed : Fate
-  selfMet : Fate
-
--- a request that opened or ended: how, when, on which face, of which entry, with which nonce and expiry
-pub record Happening : Type 0 where
-  pub fate : Fate
-  pub time : ℕ
-  pub face : ℕ
-  pub name : List ℕ
-  pub canBePrefix : Bool
-  pub mustBeFresh : Bool
-  pub cls : Class
-  pub nonce : ℕ
-  pub expiry : ℕ
-
 pub record Outcome : Type 0 where
   pub answer : Answer
   pub node : Node
   pub sends : List Send
   pub happenings : List Happening
-
--- a request of an entry, and what became of it
-unfoldable pub happens : Fate → ℕ → Entry → Held Request → Happening
-happens x now e h = record {
-  fate = x;
-  time = now;
-  face = h .face;
-  name = e .name;
-  canBePrefix = e .canBePrefix;
-  mustBeFresh = e .mustBeFresh;
-  cls = e .cls;
-  nonce = h .what .nonce;
-  expiry = h .what .expiry;
-}
 
 -- an answer with nothing sent and no request opened or ended
 unfoldable pub quiet : Answer → Node → Outcome

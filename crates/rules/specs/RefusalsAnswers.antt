@@ -19,17 +19,17 @@ use Rattle.packets.specs.Bare as bare
 use Rattle.packets.specs.Meaning.{Ask, Offer, Heard, refused, asks, brings, nacks, heard, meant, cameMeans, askOf, offerOf}
 use Rattle.writing.specs.Written.{lowered}
 use Rattle.records.specs.Class.{classOf, isClass}
-use Rattle.records.specs.Slots.{isSome, holds, isEmpty, only, Held}
+use Rattle.records.specs.Slots.{isSome, holds, isEmpty, only, Held, atPlace}
 use Rattle.records.specs.Face.{isOpen, isLocalFace, isPeer}
 use Rattle.records.specs.Route.{Route, routeOf, longest, lessBy, leastBy}
-use Rattle.records.specs.Entry.{Entry, matches, roomTaken}
+use Rattle.records.specs.Entry.{Entry, matches, roomTaken, withNack, allNacked, sentNonce}
 use Rattle.records.specs.Stored.{Hit, lookup}
 use Rattle.rules.specs.Node.{Node, What, packet, openFace, closeFace, setRoute, dropRoute, addHop, dropHop, Event}
 use Rattle.rules.specs.Outcome.{Outcome, quiet, nackFor}
 use Rattle.rules.specs.Ageing.{aged}
-use Rattle.rules.specs.Interest.{Arrival, eligible, eligibleHops, cheapest, entryOf, entryLoops, entryAt, loops, newEntry, opensEntry, noRoom, mayOpen, routed, served, asksAnew, asksAgain, asksEntry, hopIsZero, outOfScope, interestStep}
+use Rattle.rules.specs.Interest.{Arrival, eligible, eligibleHops, cheapest, entryOf, entryLoops, loops, newEntry, opensEntry, noRoom, mayOpen, routed, served, asksAnew, asksAgain, asksEntry, hopIsZero, outOfScope, interestStep}
 use Rattle.rules.specs.Data.{satisfies, dataStep}
-use Rattle.rules.specs.Nack.{withNack, allNacked, endsByNack, nackedEntry, sentNonce, nackStep}
+use Rattle.rules.specs.Nack.{endsByNack, nackedEntry, nackStep}
 use Rattle.rules.specs.Command.{byPrefix, openStep, closeStep, setRouteStep, onRoute, dropRouteStep, addHopStep, dropHopStep}
 use Rattle.rules.specs.Step.{bareStep, packetStep, whatStep, badFace, after, badTime, step}
 use Rattle.rules.specs.RefusalsWords.{Check, FaceOpen, Malformed, Unsupported, BadSetting, HopLimit, Scope, Loop, NoRoute, NoRoom, Unsolicited, StaleNack, TableFull, order, answerOf, prefixIn, nameIn}
@@ -139,7 +139,7 @@ module _ (now : ℕ) (n : Node) (f : ℕ) (i : Ask) (bytes : List ℕ) where
   interest-answer : interestStep now n came .answer ≡ interestAnswer now n f i
   unfolding interestStep interestAnswer quiet nackFor loops entryLoops isUnrouted isCrowded asksNew
   interest-answer =
-      rw (answer-pick (hopIsZero (i .hop)) _ _, answer-pick (outOfScope n f (i .name)) _ _, answer-pick (loops now n (asked f i)) _ _, entry-answer (entryAt (entryOf n i) (n .pending)))
+      rw (answer-pick (hopIsZero (i .hop)) _ _, answer-pick (outOfScope n f (i .name)) _ _, answer-pick (loops now n (asked f i)) _ _, entry-answer (atPlace (entryOf n i) (n .pending)))
 
 -- a Data
 data-answer : (now : ℕ) (n : Node) (f : ℕ) (d : Offer) (bytes : List ℕ) → dataStep now n f d bytes .answer ≡ dataAnswer n f d
@@ -155,12 +155,12 @@ nacked-answer now n k x = pick-ind (λ (o : Outcome). o .answer ≡ Answer.Done)
 -- a Nack
 nack-answer : (now : ℕ) (n : Node) (f reason : ℕ) (i : Ask) → nackStep now n f reason i .answer ≡ nackAnswer n f i
 unfolding nackStep nackAnswer isStale quiet holds pick
-nack-answer now n f reason i = go (isPeer (n .faces) f) refl (entryAt (entryOf n i) (n .pending)) refl
+nack-answer now n f reason i = go (isPeer (n .faces) f) refl (atPlace (entryOf n i) (n .pending)) refl
   where
     outer : (x y : Outcome) → pick (outOfScope n f (i .name)) x y .answer ≡ pick (outOfScope n f (i .name)) (x .answer) (y .answer)
     outer x y = answer-pick (outOfScope n f (i .name)) x y
 
-    go : (b : Bool) → isPeer (n .faces) f ≡ b → (o : Option Entry) → entryAt (entryOf n i) (n .pending) ≡ o
+    go : (b : Bool) → isPeer (n .faces) f ≡ b → (o : Option Entry) → atPlace (entryOf n i) (n .pending) ≡ o
         → nackStep now n f reason i .answer ≡ nackAnswer n f i
     go false e o q = rw (outer, e)
     go true e none q = rw (outer, e, q)

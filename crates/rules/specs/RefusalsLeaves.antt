@@ -21,20 +21,21 @@ use Rattle.packets.specs.Bare as bare
 use Rattle.packets.specs.Meaning.{Ask, Offer, Heard, refused, asks, brings, nacks, heard, meant, cameMeans, askOf, offerOf}
 use Rattle.writing.specs.Written.{nackBytes, lowered}
 use Rattle.records.specs.Class.{classOf, isClass}
-use Rattle.records.specs.Slots.{Held, isEmpty, isSome, only}
+use Rattle.records.specs.Slots.{Held, isEmpty, isSome, only, atPlace}
 use Rattle.records.specs.Face.{isOpen, isLocalFace, isPeer}
-use Rattle.records.specs.Route.{Route, routeOf, longest}
-use Rattle.records.specs.Entry.{Entry, matches}
+use Rattle.records.specs.Route.{Route, routeOf, longest, hopAt}
+use Rattle.records.specs.Entry.{Entry, matches, withNack, allNacked, sentNonce}
 use Rattle.records.specs.Stored.{Hit, lookup}
 use Rattle.rules.specs.Node.{Node, What, packet, openFace, closeFace, setRoute, dropRoute, addHop, dropHop, Event}
-use Rattle.rules.specs.Outcome.{nack, Send, Happening, Outcome, quiet, nameClass, nackFor}
+use Rattle.rules.specs.Outcome.{nack, Send, Outcome, quiet, nameClass, nackFor}
 use Rattle.rules.specs.Ageing.{aged, ageing}
-use Rattle.rules.specs.Interest.{Arrival, eligibleHops, cheapest, entryOf, entryAt, loops, newEntry, opensEntry, noRoom, mayOpen, routed, served, asksAnew, asksAgain, asksEntry, hopIsZero, outOfScope, interestStep}
+use Rattle.rules.specs.Interest.{Arrival, eligibleHops, cheapest, entryOf, loops, newEntry, opensEntry, noRoom, mayOpen, routed, served, asksAnew, asksAgain, asksEntry, hopIsZero, outOfScope, interestStep}
 use Rattle.rules.specs.Data.{satisfies, dataStep}
-use Rattle.rules.specs.Nack.{withNack, allNacked, endsByNack, nackedEntry, sentNonce, nackStep}
-use Rattle.rules.specs.Command.{byPrefix, openStep, closeStep, setRouteStep, onRoute, dropRouteStep, addHopStep, hopAt, dropHopStep}
+use Rattle.rules.specs.Nack.{endsByNack, nackedEntry, nackStep}
+use Rattle.rules.specs.Command.{byPrefix, openStep, closeStep, setRouteStep, onRoute, dropRouteStep, addHopStep, dropHopStep}
 use Rattle.rules.specs.Step.{bareStep, packetStep, whatStep, badFace, after, badTime, step}
 use Rattle.rules.specs.RefusalsReading.{Heeds, cameLong, heard-is, heard-heeds, heard-long}
+use Rattle.records.specs.Happening.{Happening}
 
 -- ---- what an answer says
 
@@ -181,7 +182,7 @@ module _ (now : ℕ) (n : Node) (f : ℕ) (l : List ℕ) (i : Ask) (bytes : List
       pick-ind (Leaves n w) (hopIsZero (i .hop)) _ _ (λ _. silent n w Answer.HopLimit refl (sends-none n w Answer.HopLimit refl))
       (λ _. pick-ind (Leaves n w) (outOfScope n f (i .name)) _ _ (λ _. silent n w Answer.Scope refl (sends-none n w Answer.Scope refl))
       (λ _. pick-ind (Leaves n w) (loops now n came) _ _ (λ _. nacking n f l i Answer.Loop 100 q refl refl)
-      (λ _. entry-leaves (entryAt (entryOf n i) (n .pending)))))
+      (λ _. entry-leaves (atPlace (entryOf n i) (n .pending)))))
 
 -- a Data
 data-leaves : (now : ℕ) (n : Node) (w : What) (f : ℕ) (d : Offer) (bytes : List ℕ) → Leaves n w (dataStep now n f d bytes)
@@ -194,7 +195,7 @@ data-leaves now n w f d bytes =
 -- a Nack
 nack-leaves : (now : ℕ) (n : Node) (w : What) (f reason : ℕ) (i : Ask) → Leaves n w (nackStep now n f reason i)
 unfolding nackStep nackedEntry endsByNack quiet nackReason
-nack-leaves now n w f reason i = go (entryAt (entryOf n i) (n .pending)) refl
+nack-leaves now n w f reason i = go (atPlace (entryOf n i) (n .pending)) refl
   where
     stale : Leaves n w (quiet Answer.StaleNack n)
     stale = silent n w Answer.StaleNack refl (sends-none n w Answer.StaleNack refl)
@@ -202,7 +203,7 @@ nack-leaves now n w f reason i = go (entryAt (entryOf n i) (n .pending)) refl
     scope : Leaves n w (quiet Answer.Scope n)
     scope = silent n w Answer.Scope refl (sends-none n w Answer.Scope refl)
 
-    go : (o : Option Entry) → entryAt (entryOf n i) (n .pending) ≡ o → Leaves n w (nackStep now n f reason i)
+    go : (o : Option Entry) → atPlace (entryOf n i) (n .pending) ≡ o → Leaves n w (nackStep now n f reason i)
     go none e =
         rw e (pick-ind (Leaves n w) (outOfScope n f (i .name)) _ _ (λ _. scope)
         (λ _. pick-ind (Leaves n w) (isPeer (n .faces) f) _ _ (λ _. stale) (λ _. stale)))

@@ -15,7 +15,7 @@ use Rattle.laws.specs.Pick.{pick}
 use Rattle.laws.specs.Tab.{indexOf}
 use Rattle.names.specs.Name.{sameBytes, prefixOf}
 use Rattle.names.specs.SameLaws.{same-equal, same-refl, prefix-append, prefix-is}
-use Rattle.records.specs.Slots.{slot, isSome, holds, Held, heldFrom, held, anyOf, only, isEmpty}
+use Rattle.records.specs.Slots.{slot, isSome, holds, Held, heldFrom, held, anyOf, only, isEmpty, atPlace}
 use Rattle.rules.specs.RefusalsWords.{First, NoneOf, Prefix}
 
 -- a test holds exactly where a statement does
@@ -127,22 +127,16 @@ only-none p (a ∷ l) = go (p a) (only-none p l)
     go true ih = refl
     go false ih = ih
 
--- the element at a place, if there is one
-unfoldable pub nth : {A : Type 0} → ℕ → List A → Option A
-nth i [] = none
-nth zero (a ∷ l) = some a
-nth (suc i) (a ∷ l) = nth i l
-
 module _ {A : Type 0} {p : A → Bool} {P : A → Type 0} (t : (a : A) → Tells (p a) (P a)) where
   -- a test of the first element of a kind, if there is one
   pub tells-first : {q : A → Bool} {Q : A → Type 0} → ((a : A) → Tells (q a) (Q a)) → (l : List A)
-      → Tells (holds q (nth (indexOf p l) l)) ((x : A) × First P x l × Q x)
-  unfolding nth holds indexOf pick
+      → Tells (holds q (atPlace (indexOf p l) l)) ((x : A) × First P x l × Q x)
+  unfolding atPlace holds indexOf pick
   tells-first u [] = (not-both, λ x. absurd (x .1))
   tells-first {q} {Q} u (a ∷ l) = go (p a) (t a) (tells-first u l)
     where
-      go : (b : Bool) → Tells b (P a) → Tells (holds q (nth (indexOf p l) l)) ((x : A) × First P x l × Q x)
-          → Tells (holds q (nth (pick b 0 (suc (indexOf p l))) (a ∷ l))) ((x : A) × First P x (a ∷ l) × Q x)
+      go : (b : Bool) → Tells b (P a) → Tells (holds q (atPlace (indexOf p l) l)) ((x : A) × First P x l × Q x)
+          → Tells (holds q (atPlace (pick b 0 (suc (indexOf p l))) (a ∷ l))) ((x : A) × First P x (a ∷ l) × Q x)
       go true v ih = (
         λ e. (a, inl (v .0 refl, refl), u a .0 e),
         λ x. ⊎-elim (λ h. u a .1 (rw (h .1) (x .2))) (λ h. absurd (h .0 (v .0 refl))) (x .1),
@@ -153,13 +147,13 @@ module _ {A : Type 0} {p : A → Bool} {P : A → Type 0} (t : (a : A) → Tells
       )
 
   -- there is no element of the kind
-  pub tells-no-first : (l : List A) → Tells (not (isSome (nth (indexOf p l) l))) (NoneOf P l)
-  unfolding nth isSome indexOf pick
+  pub tells-no-first : (l : List A) → Tells (not (isSome (atPlace (indexOf p l) l))) (NoneOf P l)
+  unfolding atPlace isSome indexOf pick
   tells-no-first [] = (λ e a m. absurd (List·Memᴰ·not-nil m), λ h. refl)
   tells-no-first (a ∷ l) = go (p a) (t a) (tells-no-first l)
     where
-      go : (b : Bool) → Tells b (P a) → Tells (not (isSome (nth (indexOf p l) l))) (NoneOf P l)
-          → Tells (not (isSome (nth (pick b 0 (suc (indexOf p l))) (a ∷ l)))) (NoneOf P (a ∷ l))
+      go : (b : Bool) → Tells b (P a) → Tells (not (isSome (atPlace (indexOf p l) l))) (NoneOf P l)
+          → Tells (not (isSome (atPlace (pick b 0 (suc (indexOf p l))) (a ∷ l)))) (NoneOf P (a ∷ l))
       go true u ih = (not-both, λ h. absurd (h a (List·Memᴰ·head refl) (u .0 refl)))
       go false u ih =
           (λ e x m. ⊎-elim (λ q y. false≢true (u .1 (rw q at y))) (ih .0 e x) (List·Memᴰ·cases-cons m), λ h. ih .1 (λ x m. h x (List·Memᴰ·tail m)))

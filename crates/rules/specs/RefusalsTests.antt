@@ -1,6 +1,6 @@
 -- The checks as tests that compute, and that each tells the words of its check.
 -- Assumes nothing.
-use Prim.Native.Nat.{ℕ, zero, suc, _+_, _-_, _≤_, _<_, _^_}
+use Prim.Native.Nat.{ℕ, suc, _+_, _-_, _≤_, _<_, _^_}
 use mathlib.Core.Path.{_≡_, refl, sym, _∙_, ap}
 use mathlib.Core.Logic.{Iff·rfl, _⊎_, inl, inr, ⊎-elim}
 use mathlib.Core.Bool.{Bool, true, false, _&&_, _||_, not, false≢true, and-true, or-assoc, or-comm}
@@ -24,19 +24,17 @@ use Rattle.packets.specs.Header.{Bare, Came, val, bytesIn, headerRead}
 use Rattle.packets.specs.Header as header
 use Rattle.packets.specs.Meaning.{Ask, Offer, Heard, refused, asks, brings, nacks, heard}
 use Rattle.records.specs.Class.{Class, alarm, monitoring, bulk, noClass, classOf, isClass}
-use Rattle.records.specs.Slots.{slot, isSome, holds, Held, held, anyOf, only, isEmpty}
+use Rattle.records.specs.Slots.{slot, isSome, holds, Held, held, anyOf, only, isEmpty, atPlace, given}
 use Rattle.records.specs.Face.{Link, pointToPoint, multiAccess, adHoc, Face, isPointToPoint, isAdHoc, isFace, isOpen, isLocalFace, isPeer, isAdHocFace}
-use Rattle.records.specs.Route.{Route, routeOf, longest}
-use Rattle.records.specs.Entry.{Entry, isKnown, hasNonce, ownNonce, matches, usedBy, isAlarm, isMonitoring, isBulk, isOther, roomTaken}
+use Rattle.records.specs.Route.{Route, routeOf, longest, hopAt}
+use Rattle.records.specs.Entry.{Entry, isKnown, hasNonce, ownNonce, matches, usedBy, isAlarm, isMonitoring, isBulk, isOther, roomTaken, sentNonce}
 use Rattle.records.specs.Stored.{Stored, Hit, serves, isBefore, earlier, lookupFrom, lookup}
 use Rattle.records.specs.Line.{Line, counts, isDead}
 use Rattle.rules.specs.Node.{Node, What, packet, openFace, closeFace, setRoute, dropRoute, addHop, dropHop, Event, printOf}
-use Rattle.rules.specs.Interest.{Arrival, spent, eligible, eligibleHops, entryOf, entryLoops, entryAt, loops, hopIsZero, outOfScope}
-use Rattle.rules.specs.Nack.{sentNonce}
-use Rattle.rules.specs.Command.{hopAt}
+use Rattle.rules.specs.Interest.{Arrival, spent, eligible, eligibleHops, entryOf, entryLoops, loops, hopIsZero, outOfScope}
 use Rattle.rules.specs.Step.{badFace, badTime}
 use Rattle.rules.specs.Ageing.{aged}
-use Rattle.rules.specs.RefusalsTells.{Tells, not-both, tells-or, tells-and, tells-if, tells-as, tells-not, tells-lt, tells-le, tells-eq, tells-flag, tells-bytes, tells-prefix, tells-some, tells-holds, tells-any, tells-no, only-none, nth, tells-first, tells-no-first, tells-held, tells-slots}
+use Rattle.rules.specs.RefusalsTells.{Tells, not-both, tells-or, tells-and, tells-if, tells-as, tells-not, tells-lt, tells-le, tells-eq, tells-flag, tells-bytes, tells-prefix, tells-some, tells-holds, tells-any, tells-no, only-none, tells-first, tells-no-first, tells-held, tells-slots}
 use Rattle.rules.specs.RefusalsEvents.{testOf, Told, ofPacket, ofOpening, ofSetting, ofDropping, ofAdding, ofDropHop, tells-event, no₁, no₂, no₃, never₁, never₂, never₃, onPacket, tells-packet, meansOf, onAsk, tells-ask, tells-interest, onOffer, tells-data, onNack, tells-nack}
 use Rattle.rules.specs.RefusalsReading.{overSize, isLong, bareLong, cameLong}
 use Rattle.rules.specs.RefusalsLongest.{longest-is, longest-none}
@@ -342,29 +340,19 @@ tells-known i x =
     (tells-and (tells-and (tells-bytes (i .name) (x .name)) (tells-flag (i .canBePrefix) (x .canBePrefix))) (tells-flag (i .mustBeFresh) (x .mustBeFresh)))
     (λ k. record { name = k .0 .0; prefix = k .0 .1; fresh = k .1 }, λ k. ((k .name, k .prefix), k .fresh))
 
--- the entry at a place
-entry-nth : (k : ℕ) (es : List Entry) → entryAt k es ≡ nth k es
-unfolding entryAt nth
-entry-nth zero [] = refl
-entry-nth (suc k) [] = refl
-entry-nth zero (e ∷ es) = refl
-entry-nth (suc k) (e ∷ es) = entry-nth k es
-
 module _ (n : Node) (i : Ask) where
   -- a test of an Interest's entry
   tells-entry : {q : Entry → Bool} {Q : Entry → Type 0} → ((x : Entry) → Tells (q x) (Q x))
-      → Tells (holds q (entryAt (entryOf n i) (n .pending))) ((x : Entry) × EntryOf n i x × Q x)
+      → Tells (holds q (atPlace (entryOf n i) (n .pending))) ((x : Entry) × EntryOf n i x × Q x)
   unfolding entryOf
   tells-entry t =
-      rw (entry-nth (indexOf (isKnown (i .name) (i .canBePrefix) (i .mustBeFresh)) (n .pending)) (n .pending))
-      (tells-first (tells-known i) t (n .pending))
+      tells-first (tells-known i) t (n .pending)
 
   -- an Interest without an entry
-  tells-no-entry : Tells (not (isSome (entryAt (entryOf n i) (n .pending)))) (NoneOf (Known i) (n .pending))
+  tells-no-entry : Tells (not (isSome (atPlace (entryOf n i) (n .pending)))) (NoneOf (Known i) (n .pending))
   unfolding entryOf
   tells-no-entry =
-      rw (entry-nth (indexOf (isKnown (i .name) (i .canBePrefix) (i .mustBeFresh)) (n .pending)) (n .pending))
-      (tells-no-first (tells-known i) (n .pending))
+      tells-no-first (tells-known i) (n .pending)
 
 -- a face's own in-record
 tells-own : (f k : ℕ) (x : Entry) → Tells (ownNonce f k x) (InRecord x f k)
@@ -458,7 +446,7 @@ module _ (now : ℕ) (n : Node) (i : Ask) where
   -- whether there is neither an entry nor a hit
   unfoldable pub asksNew : Bool
   asksNew =
-      not (isSome (entryAt (entryOf n i) (n .pending)))
+      not (isSome (atPlace (entryOf n i) (n .pending)))
       && not (isSome (lookup now (i .name) (i .canBePrefix) (i .mustBeFresh) (n .store)))
 
   -- what it tells
@@ -604,7 +592,7 @@ tells-unasked n w =
 
 -- 13: whether a Nack is stale
 unfoldable pub isStale : Node → ℕ → Ask → Bool
-isStale n f i = not (isPeer (n .faces) f) || not (holds (sentNonce f (i .nonce)) (entryAt (entryOf n i) (n .pending)))
+isStale n f i = not (isPeer (n .faces) f) || not (holds (sentNonce f (i .nonce)) (atPlace (entryOf n i) (n .pending)))
 
 -- whether an event is such a Nack
 unfoldable pub stale : Node → What → Bool
@@ -623,13 +611,13 @@ tells-stale n w = tells-nack told w
 -- ---- commands
 
 -- an element of a kind is there where its place is one of the list's
-found-nth : {A : Type 0} (p : A → Bool) (l : List A) → ltb (indexOf p l) (length l) ≡ isSome (nth (indexOf p l) l)
-unfolding indexOf nth isSome pick
+found-nth : {A : Type 0} (p : A → Bool) (l : List A) → ltb (indexOf p l) (length l) ≡ isSome (atPlace (indexOf p l) l)
+unfolding indexOf atPlace isSome pick
 found-nth p [] = refl
 found-nth p (a ∷ l) = go (p a) (found-nth p l)
   where
-    go : (b : Bool) → ltb (indexOf p l) (length l) ≡ isSome (nth (indexOf p l) l)
-        → ltb (pick b 0 (suc (indexOf p l))) (suc (length l)) ≡ isSome (nth (pick b 0 (suc (indexOf p l))) (a ∷ l))
+    go : (b : Bool) → ltb (indexOf p l) (length l) ≡ isSome (atPlace (indexOf p l) l)
+        → ltb (pick b 0 (suc (indexOf p l))) (suc (length l)) ≡ isSome (atPlace (pick b 0 (suc (indexOf p l))) (a ∷ l))
     go true ih = lt-ltb 0 (suc (length l)) (omega arith)
     go false ih = leb·suc-suc (suc (indexOf p l)) (length l) ∙ ih
 
@@ -650,12 +638,13 @@ module _ (n : Node) (q : List ℕ) where
   isHop f = isSome (hopAt f (routeOf q (n .routes)) (n .routes))
 
 -- the hop at a place
-hop-nth : (f k : ℕ) (rs : List Route) → isSome (hopAt f k rs) ≡ holds (λ (r : Route). isSome (slot f (r .hops))) (nth k rs)
-unfolding hopAt nth holds isSome
-hop-nth f zero [] = refl
-hop-nth f (suc k) [] = refl
-hop-nth f zero (r ∷ rs) = refl
-hop-nth f (suc k) (r ∷ rs) = hop-nth f k rs
+hop-nth : (f k : ℕ) (rs : List Route) → isSome (hopAt f k rs) ≡ holds (λ (r : Route). isSome (slot f (r .hops))) (atPlace k rs)
+unfolding hopAt given holds isSome
+hop-nth f k rs = go (atPlace k rs)
+  where
+    go : (o : Option Route) → isSome (given none (λ (r : Route). slot f (r .hops)) o) ≡ holds (λ (r : Route). isSome (slot f (r .hops))) o
+    go none = refl
+    go (some r) = refl
 
 -- a prefix that is not known has no hop
 pub no-route-no-hop : (n : Node) (f : ℕ) (q : List ℕ) → isRoute n q ≡ false → isHop n q f ≡ false
@@ -663,7 +652,7 @@ unfolding isRoute isHop routeOf isSome holds
 no-route-no-hop n f q e =
     let p : Route → Bool = λ r. sameBytes q (r .name) in
     let k = indexOf p (n .routes) in
-    hop-nth f k (n .routes) ∙ go (nth k (n .routes)) (sym (found-nth p (n .routes)) ∙ e)
+    hop-nth f k (n .routes) ∙ go (atPlace k (n .routes)) (sym (found-nth p (n .routes)) ∙ e)
   where
     go : (o : Option Route) → isSome o ≡ false → holds (λ (r : Route). isSome (slot f (r .hops))) o ≡ false
     go none e = refl

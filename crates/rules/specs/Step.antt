@@ -1,30 +1,27 @@
 -- One event, whose "checks run in this order: 1, 2, 3, ageing, 14, ..", and a run of events with its history. For any number of faces and any least buffer length.
 -- Assumes nothing.
 use Prim.Native.Nat.{ℕ, _^_}
-use mathlib.Core.Bool.{Bool, true, false, _&&_, _||_, not}
+use mathlib.Core.Bool.{Bool, false, _&&_, _||_, not}
 use mathlib.Core.List.{List, [], _∷_, _++_}
-use mathlib.Core.Option.{Option, none, some}
 use lib.ListN.{length}
 use lib.Dec.{ltb}
 use Rattle.answers.specs.declared.Answer.{Answer}
 use Rattle.laws.specs.Pick.{pick}
-use Rattle.packets.specs.Header.{Bare, Came, headerRead, val}
+use Rattle.packets.specs.Header.{Came, headerRead, val}
 use Rattle.packets.specs.Header as header
-use Rattle.packets.specs.Bare.{Reading, hopIn, freshnessOf, bareRead}
+use Rattle.packets.specs.Bare.{Reading, hopIn, bareRead}
 use Rattle.packets.specs.Bare as bare
-use Rattle.wire.specs.Number.{number}
-use Rattle.wire.specs.Element.{element}
-use Rattle.names.specs.Name.{components}
-use Rattle.packets.specs.Meaning.{askOf, offerOf, heard}
+use Rattle.packets.specs.Meaning.{askOf, offerOf}
 use Rattle.writing.specs.Written.{lowered}
 use Rattle.records.specs.Face.{isFace, isOpen}
 use Rattle.rules.specs.Node.{Node, What, packet, clock, openFace, closeFace, setRoute, dropRoute, addHop, dropHop, Event}
-use Rattle.rules.specs.Outcome.{Happening, Outcome, quiet}
+use Rattle.rules.specs.Outcome.{Outcome, quiet}
 use Rattle.rules.specs.Ageing.{aged, ageing}
-use Rattle.rules.specs.Interest.{Arrival, interestStep}
+use Rattle.rules.specs.Interest.{interestStep}
 use Rattle.rules.specs.Data.{dataStep}
 use Rattle.rules.specs.Nack.{nackStep}
 use Rattle.rules.specs.Command.{openStep, closeStep, setRouteStep, dropRouteStep, addHopStep, dropHopStep}
+use Rattle.records.specs.Happening.{Happening}
 
 -- a bare packet that arrived on a face
 unfoldable pub bareStep : ℕ → Node → ℕ → List ℕ → Reading → Outcome
