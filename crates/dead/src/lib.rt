@@ -1,7 +1,7 @@
 // The dead nonce list: a ring of fingerprints with the time when each joined.
+use rows::clamped;
 ghost use mathlib.Core.Path.{_≡_};
 ghost use mathlib.Core.List.{[]};
-ghost use Prim.Native.Nat.{min};
 ghost use lib.ListN.{length};
 ghost use Rattle.records.specs.Line.{joined, counts, isDead};
 ghost use Rattle.dead.specs.View.{line, lineOf, view};
@@ -49,13 +49,6 @@ pub fn join(lines: &mut Lines, ring: Ring, print: u64, time: u64) -> Ring
     }
 }
 
-// How many lines there are: a count past the ring's size is the size.
-fn clamped(count: usize) -> usize
-    ensures { λ r. ⌜ r ≡ min count 256 ⌝ }
-{
-    if count < 256 { count } else { 256 }
-}
-
 // Whether a line counts for a fingerprint. A line later than the time has age 0.
 fn is_live(row: &[u64; 2], time: u64, print: u64) -> bool
     ensures { λ r. ⌜ r ≡ counts time print (lineOf (now (row .entry))) ⌝ }
@@ -75,7 +68,7 @@ fn is_live(row: &[u64; 2], time: u64, print: u64) -> bool
 pub fn is_dead(lines: &Lines, ring: Ring, time: u64, print: u64) -> bool
     ensures { λ r. ⌜ r ≡ isDead time print (view (now (lines .entry)) ring) ⌝ }
 {
-    let n = clamped(ring.count);
+    let n = clamped(ring.count, 256);
     let mut k: usize = 0;
     while k < n {
         let j = (ring.at % 256 + k) % 256;

@@ -3,7 +3,7 @@
 use Prim.Native.Nat.{ℕ}
 use mathlib.Core.Bool.{Bool, not}
 use mathlib.Core.List.{List, map}
-use Rattle.records.specs.Slots.{Held, held, only}
+use Rattle.records.specs.Slots.{Held, held, only, each}
 use Rattle.records.specs.Entry.{Request, Sent, Entry, isIdle, isLive, agedEntry}
 use Rattle.records.specs.Line.{Line}
 use Rattle.records.specs.Happening.{Happening, expired, happens}
@@ -23,3 +23,7 @@ stays now e = not (isIdle (agedEntry now e))
 -- the entries that stay, with the requests that live
 unfoldable pub agedPending : ℕ → List Entry → List Entry
 agedPending now es = map (agedEntry now) (only (stays now) es)
+
+-- what the entries that leave bury, "oldest opening first", by a fingerprint
+unfoldable pub agedLinesBy : (List ℕ → ℕ → ℕ) → ℕ → List Entry → List Line
+agedLinesBy print now es = each (buriedBy print now) (only (λ e. not (stays now e)) es)

@@ -1,12 +1,11 @@
 -- Document 01, "Ageing".
 -- Assumes nothing.
 use Prim.Native.Nat.{ℕ}
-use mathlib.Core.Bool.{not}
 use mathlib.Core.List.{List}
-use Rattle.records.specs.Slots.{only, each}
+use Rattle.records.specs.Slots.{each}
 use Rattle.records.specs.Entry.{Entry}
 use Rattle.records.specs.Happening.{Happening}
-use Rattle.records.specs.Ageing.{buriedBy, expiries, stays, agedPending}
+use Rattle.records.specs.Ageing.{buriedBy, expiries, agedPending, agedLinesBy}
 use Rattle.records.specs.Line.{Line, joinedAll}
 use Rattle.rules.specs.Node.{Node, mostDead, printOf}
 
@@ -20,7 +19,7 @@ joinDead ls xs = joinedAll mostDead ls xs
 
 -- what the entries that leave bury, "oldest opening first"
 unfoldable pub agedLines : ℕ → List Entry → List Line
-agedLines now es = each (buried now) (only (λ e. not (stays now e)) es)
+agedLines now es = agedLinesBy printOf now es
 
 -- "Every other answer first moves the last time and ages the tables"
 unfoldable pub aged : ℕ → Node → Node

@@ -31,9 +31,9 @@ use Rattle.rules.specs.Step.{bareStep, packetStep, whatStep, badFace, af
 use Rattle.rules.specs.Node.{Node, Event}
 use Rattle.rules.specs.Outcome.{Outcome}
 use Rattle.records.specs.Happening.{happens}
-use Rattle.records.specs.Ageing.{buriedBy, expiries, stays, agedPending}
+use Rattle.records.specs.Ageing.{buriedBy, agedLinesBy, expiries, stays, agedPending}
 
 -- the outcomes of a run, as they compute
 unfoldable pub computed : ℕ → ℕ → List Event → Node → List Outcome
-unfolding pick indexOf onAt without number element components counted sameBytes prefixOf underLocalhost underLocalhop canonicalOrder fingerprint headerRead hopIn bareRead askOf offerOf heard nackBytes lowered classOf classNumber isClass lower isKnown withRequests withSent isIdle isLive ifLive agedEntry hasNonce ownNonce newestOf isSuppressed matches reasonOf wasNacked lesserReason smallestReason usedBy isAlarm isMonitoring isBulk isOther roomTaken isPointToPoint isAdHoc isFace isOpen isLocalFace isPeer isAdHocFace joined joinedAll counts isDead routeOf withClass newRoute withHop longer longest lessBy leastBy noSlots slot setSlot isSome holds given heldFrom held anyOf only each isEmpty others roomFor stored serves isBefore earlier lookupFrom lookup touched buriedBy buried joinDead expiries stays agedPending agedLines aged ageing byPrefix linkOf faceOf openStep ownLine withoutFace closingLines closingEnds closeStep setRouteStep onRoute dropRouteStep addHopStep hopAt dropHopStep storedAs isSelfMet fateOf dataEnds classesOn lowestOf copyOn numbersFrom copies satisfies dataStep spent eligible requestOf sentOf eligibleHops cheapest entryOf entryLoops atPlace loops forwards newEntry opens opensEntry noRoom mayOpen routed served asksAnew fromLocalFace nextHop withRequest resends sentOn sendsOn asksAgain asksEntry hopIsZero outOfScope interestStep markNacked withNack allNacked withoutPeers peersOf nackOf withoutPeer settled endsByNack nackedEntry sentNonce nackStep emptyNode printOf happens quiet routeClass nameClass nackFor bareStep packetStep whatStep badFace after badTime step run outcomes history
+unfolding pick indexOf onAt without number element components counted sameBytes prefixOf underLocalhost underLocalhop canonicalOrder fingerprint headerRead hopIn bareRead askOf offerOf heard nackBytes lowered classOf classNumber isClass lower isKnown withRequests withSent isIdle isLive ifLive agedEntry hasNonce ownNonce newestOf isSuppressed matches reasonOf wasNacked lesserReason smallestReason usedBy isAlarm isMonitoring isBulk isOther roomTaken isPointToPoint isAdHoc isFace isOpen isLocalFace isPeer isAdHocFace joined joinedAll counts isDead routeOf withClass newRoute withHop longer longest lessBy leastBy noSlots slot setSlot isSome holds given heldFrom held anyOf only each isEmpty others roomFor stored serves isBefore earlier lookupFrom lookup touched buriedBy agedLinesBy buried joinDead expiries stays agedPending agedLines aged ageing byPrefix linkOf faceOf openStep ownLine withoutFace closingLines closingEnds closeStep setRouteStep onRoute dropRouteStep addHopStep hopAt dropHopStep storedAs isSelfMet fateOf dataEnds classesOn lowestOf copyOn numbersFrom copies satisfies dataStep spent eligible requestOf sentOf eligibleHops cheapest entryOf entryLoops atPlace loops forwards newEntry opens opensEntry noRoom mayOpen routed served asksAnew fromLocalFace nextHop withRequest resends sentOn sendsOn asksAgain asksEntry hopIsZero outOfScope interestStep markNacked withNack allNacked withoutPeers peersOf nackOf withoutPeer settled endsByNack nackedEntry sentNonce nackStep emptyNode printOf happens quiet routeClass nameClass nackFor bareStep packetStep whatStep badFace after badTime step run outcomes history
 computed faces least es n = outcomes faces least es n
