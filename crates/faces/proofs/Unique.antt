@@ -15,6 +15,14 @@ use Rattle.faces.proofs.size.Kinds as size-kinds
 use Rattle.faces.proofs.size.Reads as size-reads
 use Rattle.faces.proofs.lowest.Kinds as lowest-kinds
 use Rattle.faces.proofs.lowest.Reads as lowest-reads
+use Rattle.faces.proofs.members.Kinds as members-kinds
+use Rattle.faces.proofs.members.Reads as members-reads
+use Rattle.faces.proofs.common.Kinds as common-kinds
+use Rattle.faces.proofs.common.Reads as common-reads
+use Rattle.faces.proofs.either.Kinds as either-kinds
+use Rattle.faces.proofs.either.Reads as either-reads
+use Rattle.faces.proofs.less.Kinds as less-kinds
+use Rattle.faces.proofs.less.Reads as less-reads
 use Rattle.faces.proofs.Faces.is_open.Kinds as is-open-kinds
 use Rattle.faces.proofs.Faces.is_open.Reads as is-open-reads
 use Rattle.faces.proofs.Faces.is_local.Kinds as is-local-kinds
@@ -54,6 +62,26 @@ size-one κs a x y s t p q = p ∙ sym q
 pub lowest-one : (κs : Lfts 0) (a : Dens κs lowest-kinds.ps) (x y : resT lowest-kinds.r κs .Denot) (s t : AtExit (endedOf 0 lowest-kinds.ps lowest-kinds.r) κs)
     → lowest-reads.Post κs a x s → lowest-reads.Post κs a y t → x ≡ y
 lowest-one κs a x y s t p q = p ∙ sym q
+
+-- the faces of a set
+pub members-one : (κs : Lfts 0) (a : Dens κs members-kinds.ps) (x y : resT members-kinds.r κs .Denot) (s t : AtExit (endedOf 0 members-kinds.ps members-kinds.r) κs)
+    → members-reads.Post κs a x s → members-reads.Post κs a y t → x ≡ y
+members-one κs a x y s t p q = p ∙ sym q
+
+-- the faces that are in both sets
+pub common-one : (κs : Lfts 0) (a : Dens κs common-kinds.ps) (x y : resT common-kinds.r κs .Denot) (s t : AtExit (endedOf 0 common-kinds.ps common-kinds.r) κs)
+    → common-reads.Post κs a x s → common-reads.Post κs a y t → x ≡ y
+common-one κs a x y s t p q = p ∙ sym q
+
+-- the faces that are in one of the sets
+pub either-one : (κs : Lfts 0) (a : Dens κs either-kinds.ps) (x y : resT either-kinds.r κs .Denot) (s t : AtExit (endedOf 0 either-kinds.ps either-kinds.r) κs)
+    → either-reads.Post κs a x s → either-reads.Post κs a y t → x ≡ y
+either-one κs a x y s t p q = p ∙ sym q
+
+-- the faces of the first set that are not in the second
+pub less-one : (κs : Lfts 0) (a : Dens κs less-kinds.ps) (x y : resT less-kinds.r κs .Denot) (s t : AtExit (endedOf 0 less-kinds.ps less-kinds.r) κs)
+    → less-reads.Post κs a x s → less-reads.Post κs a y t → x ≡ y
+less-one κs a x y s t p q = p ∙ sym q
 
 -- whether a face is open
 pub is-open-one : (κs : Lfts 0) (a : Dens κs is-open-kinds.ps) (x y : resT is-open-kinds.r κs .Denot) (s t : AtExit (endedOf 0 is-open-kinds.ps is-open-kinds.r) κs)

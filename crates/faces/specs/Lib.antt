@@ -1,4 +1,6 @@
 pub mod Set
 pub mod SetLaws
+pub mod Slots
+pub mod SlotLaws
 pub mod View
 pub mod ViewLaws

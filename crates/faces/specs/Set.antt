@@ -1,11 +1,15 @@
 -- A set of faces as the binary digits of a number: face f is digit f - 1. Digits past the number n of faces are not members.
 -- Assumes nothing.
-use Prim.Native.Nat.{ℕ, _+_, _-_, _%_, _^_}
+use Prim.Native.Nat.{ℕ, zero, suc, _+_, _-_, _%_, _^_}
 use mathlib.Core.Bool.{Bool, _&&_}
 use lib.Count.{ones, trailingZeros}
 use Rattle.laws.specs.Pick.{pick}
 use Rattle.laws.specs.Digits.{member, added, removed}
 use Rattle.records.specs.Face.{isFace}
+
+-- "Faces 1 to 16": the one place that the promises take their number of faces from
+abbrev pub mostFaces : ℕ
+mostFaces = 16
 
 -- whether a set has a face
 unfoldable pub hasFace : ℕ → ℕ → ℕ → Bool
@@ -26,3 +30,8 @@ sizeOf n s = ones (s % 2 ^ n)
 -- the lowest face of a set, one past the last face where it has none
 unfoldable pub lowestOf : ℕ → ℕ → ℕ
 lowestOf n s = trailingZeros 64 (s % 2 ^ n + 2 ^ n) + 1
+
+-- the set of those of n faces that p holds of
+unfoldable pub facesWhere : ℕ → (ℕ → Bool) → ℕ
+facesWhere zero p = 0
+facesWhere (suc n) p = facesWhere n p + pick (p (suc n)) (2 ^ n) 0

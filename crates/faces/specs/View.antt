@@ -1,6 +1,6 @@
 -- The open faces as a node has them: a slot for each of n faces. No other file can open `view`, so its laws stand here.
 -- Assumes nothing.
-use Prim.Native.Nat.{ℕ, _+_, _-_, _≤_, _<_}
+use Prim.Native.Nat.{ℕ, _-_, _≤_, _<_}
 use mathlib.Core.Path.{_≡_, sym, _∙_}
 use mathlib.Core.Bool.{Bool, true, false, _&&_}
 use mathlib.Core.List.{List}
@@ -8,16 +8,14 @@ use mathlib.Core.Logic.{_≢_}
 use mathlib.Core.Option.{Option, none, some}
 use native.Mathlib.Nat.{zero-add}
 use native.Mathlib.Omega.{arith}
-use lib.ListN.{length, getD, replicate, length-replicate, getD-replicate}
-use lib.Seq.{ext-getD}
+use lib.ListN.{length}
 use Rattle.laws.specs.Pick.{pick, pick-yes, pick-no}
 use Rattle.laws.specs.Digits.{member}
-use Rattle.laws.specs.Rows.{at}
-use Rattle.laws.specs.Tab.{tab, length-tab, getD-tab, tab-ext, tab-at, at-onAt}
+use Rattle.laws.specs.Tab.{tab, length-tab, getD-tab, tab-ext, tab-set, tab-replicate}
 use Rattle.records.specs.Slots.{noSlots, slot, setSlot}
 use Rattle.records.specs.Face as node
 use Rattle.records.specs.Face.{Face, pointToPoint, multiAccess, adHoc, isFace}
-use Rattle.faces.specs.SetLaws.{face-yes}
+use Rattle.records.specs.FaceLaws.{face-yes}
 use Rattle.faces.specs.declared.Link.{Link}
 use Rattle.faces.specs.declared.Faces.{Faces}
 
@@ -73,11 +71,9 @@ view-same n fs gs e = tab-ext (slotAt gs) (slotAt fs) 0 n (λ i _ h. e i (omega 
 -- where the digits of face f alone change, its slot alone changes
 view-set : (n f : ℕ) (x : Option Face) (fs gs : Faces) → slotAt gs (f - 1) ≡ x
     → ((i : ℕ) → i < n → i ≢ f - 1 → slotAt gs i ≡ slotAt fs i) → view n gs ≡ setSlot f x (view n fs)
-unfolding view setSlot at
+unfolding view setSlot
 view-set n f x fs gs e o =
-    tab-at (slotAt fs) (slotAt gs) (λ _. x) 0 n (f - 1) (rw zero-add e)
-    (λ i _ h d. o i (omega arith) (λ q. d (omega arith)))
-    ∙ sym (at-onAt none (f - 1) (λ _. x) (tab (slotAt fs) 0 n))
+    tab-set (slotAt fs) (slotAt gs) x 0 n (f - 1) (rw zero-add e) (λ i _ h d. o i (omega arith) (λ q. d (omega arith)))
 
 -- where the digits of face f say open, with scope l and link type k, and those of the others are as they were, f is opened
 pub view-opened : (n f : ℕ) (l : Bool) (k : Link) (fs gs : Faces) → 1 ≤ f → f ≤ n → member (f - 1) (gs .open) ≡ true
@@ -98,8 +94,4 @@ view-shut n f fs gs a b x o =
 -- where no digit says open, no face is open
 pub view-none : (n : ℕ) (fs : Faces) → ((i : ℕ) → i < n → member i (fs .open) ≡ false) → view n fs ≡ closed n
 unfolding view closed noSlots slotAt
-view-none n fs h =
-    let len = length-tab (slotAt fs) 0 n in
-    let same : ((i : ℕ) → i < n → getD (tab (slotAt fs) 0 n) i none ≡ getD (replicate n none) i none) =
-    (λ i l. getD-tab (slotAt fs) 0 n i none l ∙ rw zero-add (pick-no _ _ _ (h i l) ∙ sym (getD-replicate n i none none l))) in
-    ext-getD none (tab (slotAt fs) 0 n) _ (len ∙ sym (length-replicate n none)) (λ i l. same i (rw len at l))
+view-none n fs h = tab-replicate (slotAt fs) none 0 n (λ i _ l. pick-no _ _ _ (h i (omega arith)))

@@ -3,29 +3,17 @@
 use Prim.Native.Nat.{ℕ, _-_, _≤_}
 use mathlib.Core.Path.{_≡_, refl, _∙_}
 use mathlib.Core.Bool.{Bool, true, false, _&&_, not}
-use mathlib.Core.Option.{none, some}
-use mathlib.Core.Logic.{_≢_}
 use Rattle.laws.specs.Pick.{pick}
-use Rattle.laws.specs.Digits.{member, member-add-same, member-add-other, member-remove-same, member-remove-other}
-use Rattle.records.specs.Slots.{slot, isSome, holds}
-use Rattle.records.specs.Face.{Face, isFace, isOpen, isLocalFace, isPeer, isAdHocFace, isPointToPoint, isAdHoc, pointToPoint, multiAccess, adHoc}
+use Rattle.laws.specs.Digits.{member}
+use Rattle.records.specs.Slots.{slot}
+use Rattle.records.specs.Face.{isFace, isOpen, isLocalFace, isPeer, isAdHocFace, isPointToPoint, isAdHoc, pointToPoint, multiAccess, adHoc}
 use Rattle.faces.specs.declared.Link.{Link}
 use Rattle.faces.specs.declared.Faces.{Faces}
 use Rattle.faces.specs.Set.{hasFace, withFace, withoutFace}
-use Rattle.faces.specs.SetLaws.{face-yes}
+use Rattle.records.specs.FaceLaws.{face-yes}
+use Rattle.faces.specs.SetLaws.{put-same, put-other, put-none}
+use Rattle.faces.specs.SlotLaws.{holds-there, some-there}
 use Rattle.faces.specs.View.{view, view-slot, view-same, view-opened, view-shut, slotAt, linkAt, linkOf, asked, opened, shut}
-
--- p holds of what is there exactly where something is there and p holds of it
-holds-there : (p : Face → Bool) (o : Bool) (x : Face) → holds p (pick o (some x) none) ≡ o && p x
-unfolding holds pick
-holds-there p true x = refl
-holds-there p false x = refl
-
--- something is there exactly where the digit says so
-some-there : (o : Bool) (x : Face) → isSome (pick o (some x) none) ≡ o
-unfolding isSome pick
-some-there true x = refl
-some-there false x = refl
 
 -- a test of two sets is a test of each
 both-asked : (b x y : Bool) → b && (x && y) ≡ (b && x) && (b && y)
@@ -87,25 +75,6 @@ module _ (n f : ℕ) (fs : Faces) where
       by-digits _ (member (f - 1) (fs .open) && (not (member (f - 1) (fs .peer)) && member (f - 1) (fs .adhoc)))
       (λ e. rw (e, holds-there, link-adhoc))
       ∙ but-asked (isFace n f) (member (f - 1) (fs .open)) (member (f - 1) (fs .peer)) (member (f - 1) (fs .adhoc))
-
--- a face that is put in has its digit set, one that is taken out has not
-put-same : (n f s : ℕ) (b : Bool) → isFace n f ≡ true → member (f - 1) (pick b (withFace n s f) (withoutFace n s f)) ≡ b
-unfolding pick withFace withoutFace
-put-same n f s true h = rw h (member-add-same (f - 1) s)
-put-same n f s false h = rw h (member-remove-same (f - 1) s)
-
--- the digits of the other faces are as they were
-put-other : (n f s : ℕ) (b : Bool) → isFace n f ≡ true → (i : ℕ) → i ≢ f - 1
-    → member i (pick b (withFace n s f) (withoutFace n s f)) ≡ member i s
-unfolding pick withFace withoutFace
-put-other n f s true h i d = rw h (member-add-other (f - 1) s i d)
-put-other n f s false h i d = rw h (member-remove-other (f - 1) s i d)
-
--- a number that is no face changes nothing
-put-none : (n f s : ℕ) (b : Bool) → isFace n f ≡ false → pick b (withFace n s f) (withoutFace n s f) ≡ s
-unfolding pick withFace withoutFace
-put-none n f s true h = rw h
-put-none n f s false h = rw h
 
 -- the faces with one opened: put into or taken out of each set as its scope and link type say
 pub with-open : (n f : ℕ) (l p a : Bool) (k : Link) (fs gs : Faces)

@@ -2,9 +2,10 @@
 //
 // "a set whose size and lowest member are asked for constantly": face f is bit f - 1; ones give the size, trailing zeros the lowest face.
 ghost use mathlib.Core.Path.{_≡_};
+ghost use mathlib.Core.Bool.{_&&_, _||_, not};
 ghost use Rattle.laws.specs.Pick.{pick};
 ghost use Rattle.records.specs.Face.{isOpen, isLocalFace, isPeer, isAdHocFace};
-ghost use Rattle.faces.specs.Set.{hasFace, withFace, withoutFace, sizeOf, lowestOf};
+ghost use Rattle.faces.specs.Set.{mostFaces, hasFace, withFace, withoutFace, sizeOf, lowestOf, facesWhere};
 ghost use Rattle.faces.specs.View.{view, asked, opened, shut, closed};
 
 // "Faces 1 to 16": the one constant of the code.
@@ -27,7 +28,7 @@ pub struct Faces {
 
 // Whether a set has a face.
 pub fn has(set: u64, face: usize) -> bool
-    ensures { λ r. ⌜ r ≡ hasFace 16 set face ⌝ }
+    ensures { λ r. ⌜ r ≡ hasFace mostFaces set face ⌝ }
 {
     if face == 0 {
         return false;
@@ -40,7 +41,7 @@ pub fn has(set: u64, face: usize) -> bool
 
 // The set with a face more; a number that is no face changes nothing.
 pub fn add(set: u64, face: usize) -> u64
-    ensures { λ r. ⌜ r ≡ withFace 16 set face ⌝ }
+    ensures { λ r. ⌜ r ≡ withFace mostFaces set face ⌝ }
 {
     if face == 0 {
         return set;
@@ -53,7 +54,7 @@ pub fn add(set: u64, face: usize) -> u64
 
 // The set without a face; a number that is no face changes nothing.
 pub fn remove(set: u64, face: usize) -> u64
-    ensures { λ r. ⌜ r ≡ withoutFace 16 set face ⌝ }
+    ensures { λ r. ⌜ r ≡ withoutFace mostFaces set face ⌝ }
 {
     if has(set, face) {
         return set - (1 << ((face - 1) as u32));
@@ -63,7 +64,7 @@ pub fn remove(set: u64, face: usize) -> u64
 
 // The set with a face or without it.
 fn put(set: u64, face: usize, there: bool) -> u64
-    ensures { λ r. ⌜ r ≡ pick there (withFace 16 set face) (withoutFace 16 set face) ⌝ }
+    ensures { λ r. ⌜ r ≡ pick there (withFace mostFaces set face) (withoutFace mostFaces set face) ⌝ }
 {
     if there {
         return add(set, face);
@@ -73,24 +74,52 @@ fn put(set: u64, face: usize, there: bool) -> u64
 
 // How many faces a set has.
 pub fn size(set: u64) -> usize
-    ensures { λ r. ⌜ r ≡ sizeOf 16 set ⌝ }
+    ensures { λ r. ⌜ r ≡ sizeOf mostFaces set ⌝ }
 {
     u64::count_ones(set % (1 << (FACES as u32))) as usize
 }
 
 // The lowest face of a set, one past the last face where it has none.
 pub fn lowest(set: u64) -> usize
-    ensures { λ r. ⌜ r ≡ lowestOf 16 set ⌝ }
+    ensures { λ r. ⌜ r ≡ lowestOf mostFaces set ⌝ }
 {
     // The first digit that is no face's.
     let past = 1 << (FACES as u32);
     u64::trailing_zeros(set % past + past) as usize + 1
 }
 
+// The faces of a set, without the bits that are no face's.
+pub fn members(set: u64) -> u64
+    ensures { λ r. ⌜ r ≡ facesWhere mostFaces (hasFace mostFaces set) ⌝ }
+{
+    set % (1 << (FACES as u32))
+}
+
+// The faces that are in both sets.
+pub fn common(a: u64, b: u64) -> u64
+    ensures { λ r. ⌜ r ≡ facesWhere mostFaces (λ f. hasFace mostFaces a f && hasFace mostFaces b f) ⌝ }
+{
+    members(a & b)
+}
+
+// The faces that are in one of the sets, or in both.
+pub fn either(a: u64, b: u64) -> u64
+    ensures { λ r. ⌜ r ≡ facesWhere mostFaces (λ f. hasFace mostFaces a f || hasFace mostFaces b f) ⌝ }
+{
+    members(a | b)
+}
+
+// The faces of the first set that are not in the second.
+pub fn less(a: u64, b: u64) -> u64
+    ensures { λ r. ⌜ r ≡ facesWhere mostFaces (λ f. hasFace mostFaces a f && not (hasFace mostFaces b f)) ⌝ }
+{
+    members(a ^ (a & b))
+}
+
 impl Faces {
     // No face is open.
     pub fn none() -> Faces
-        ensures { λ r. ⌜ view 16 r ≡ closed 16 ⌝ }
+        ensures { λ r. ⌜ view mostFaces r ≡ closed mostFaces ⌝ }
     {
         Faces {
             open: 0,
@@ -102,14 +131,14 @@ impl Faces {
 
     // Whether a face is open.
     pub fn is_open(self, face: usize) -> bool
-        ensures { λ r. ⌜ r ≡ asked 16 face (isOpen (view 16 self) face) ⌝ }
+        ensures { λ r. ⌜ r ≡ asked mostFaces face (isOpen (view mostFaces self) face) ⌝ }
     {
         has(self.open, face)
     }
 
     // Whether a face is open and local.
     pub fn is_local(self, face: usize) -> bool
-        ensures { λ r. ⌜ r ≡ asked 16 face (isLocalFace (view 16 self) face) ⌝ }
+        ensures { λ r. ⌜ r ≡ asked mostFaces face (isLocalFace (view mostFaces self) face) ⌝ }
     {
         if has(self.open, face) {
             return has(self.local, face);
@@ -119,7 +148,7 @@ impl Faces {
 
     // Whether a face is open and point-to-point.
     pub fn is_peer(self, face: usize) -> bool
-        ensures { λ r. ⌜ r ≡ asked 16 face (isPeer (view 16 self) face) ⌝ }
+        ensures { λ r. ⌜ r ≡ asked mostFaces face (isPeer (view mostFaces self) face) ⌝ }
     {
         if has(self.open, face) {
             return has(self.peer, face);
@@ -129,7 +158,7 @@ impl Faces {
 
     // Whether a face is open and ad hoc: a face that is both is point-to-point.
     pub fn is_ad_hoc(self, face: usize) -> bool
-        ensures { λ r. ⌜ r ≡ asked 16 face (isAdHocFace (view 16 self) face) ⌝ }
+        ensures { λ r. ⌜ r ≡ asked mostFaces face (isAdHocFace (view mostFaces self) face) ⌝ }
     {
         if has(self.open, face) {
             if has(self.peer, face) {
@@ -142,7 +171,7 @@ impl Faces {
 
     // The faces with one opened, or opened anew; a number that is no face changes nothing.
     pub fn with_open(self, face: usize, local: bool, link: Link) -> Faces
-        ensures { λ r. ⌜ view 16 r ≡ opened 16 face local link (view 16 self) ⌝ }
+        ensures { λ r. ⌜ view mostFaces r ≡ opened mostFaces face local link (view mostFaces self) ⌝ }
     {
         let open = add(self.open, face);
         let scope = put(self.local, face, local);
@@ -172,7 +201,7 @@ impl Faces {
 
     // The faces with one closed; a number that is no face changes nothing.
     pub fn with_closed(self, face: usize) -> Faces
-        ensures { λ r. ⌜ view 16 r ≡ shut 16 face (view 16 self) ⌝ }
+        ensures { λ r. ⌜ view mostFaces r ≡ shut mostFaces face (view mostFaces self) ⌝ }
     {
         Faces {
             open: remove(self.open, face),

@@ -1,14 +1,14 @@
 -- Sets of small numbers as the binary digits of a number: membership, a member more or less, the size, the lowest member.
 -- Assumes nothing.
-use Prim.Native.Nat.{ℕ, zero, suc, _+_, _-_, _*_, _/_, _%_, _^_, _≤_, _<_}
+use Prim.Native.Nat.{ℕ, zero, suc, _+_, _-_, _*_, _/_, _%_, _^_, _≤_, _<_, min, max}
 use mathlib.Core.Path.{_≡_, refl, sym, _∙_, ap}
-use mathlib.Core.Bool.{Bool, true, false}
+use mathlib.Core.Bool.{Bool, true, false, _&&_, _||_, not}
 use mathlib.Core.List.{List, [], _∷_}
 use mathlib.Core.Logic.{_≢_, _↔_}
 use lib.Dec.{eqb}
 use lib.Count.{onesIn, ones, trailingZeros, under, ones-step}
 use lib.Pow.{pow-pos, pow-lt, pow-add, shr-shr}
-use lib.Bits.{bitAnd, bitOr, and-high, or-disjoint, or-add-and, or-lt}
+use lib.Bits.{bitAnd, bitOr, bitXor, differ, and-step, or-step, xor-step, and-high, or-disjoint, or-add-and, or-lt}
 use borrow.Author.Tests.{eqb-true, eqb-false, eq-eqb, ne-eqb}
 use native.Mathlib.Numerals.{one-add}
 use native.Mathlib.Nat.{mod-lt, mod-eq-of-lt, one-mul, add-zero, add-mul-mod-self-right, div-add-mod'}
@@ -342,3 +342,62 @@ added-lt w f s l h = rw (← (or-added w f s l)) (or-lt w s _ h (mod-lt _ (pow-p
 pub removed-le : (f s : ℕ) → removed f s ≤ s
 unfolding removed
 removed-le f s = pick-ind (λ (x : ℕ). x ≤ s) (member f s) _ _ (λ _. omega arith) (λ _. omega arith)
+
+-- what holds of 0 and 1 holds of any digit
+one-digit : (P : ℕ → Type 0) → P 0 → P 1 → (x : ℕ) → x ≤ 1 → P x
+one-digit P a b zero h = a
+one-digit P a b (suc zero) h = b
+one-digit P a b (suc (suc x)) h = absurd (omega arith)
+
+-- what holds of 0 and 1 holds of any two digits
+two-digits : (P : ℕ → ℕ → Type 0) → P 0 0 → P 0 1 → P 1 0 → P 1 1 → (x y : ℕ) → x ≤ 1 → y ≤ 1 → P x y
+two-digits P a b c d x y h l = one-digit (λ z. P z y) (one-digit (P 0) a b y l) (one-digit (P 1) c d y l) x h
+
+-- a number made digit by digit from two others, each digit as the test t says, has as members what t says of those of the two
+module _ (o : ℕ → ℕ → ℕ) (d : ℕ → ℕ → ℕ) (t : Bool → Bool → Bool) (step : (a b : ℕ) → o a b ≡ o (a / 2) (b / 2) * 2 + d (a % 2) (b % 2))
+    (tests : (x y : ℕ) → x ≤ 1 → y ≤ 1 → d x y ≡ pick (t (eqb x 1) (eqb y 1)) 1 0) where
+  -- the lowest digit is what t says, and the half is made of the halves
+  made-low : (a b : ℕ) → (o a b % 2 ≡ pick (t (eqb (a % 2) 1) (eqb (b % 2) 1)) 1 0) × (o a b / 2 ≡ o (a / 2) (b / 2))
+  made-low a b =
+      let c = t (eqb (a % 2) 1) (eqb (b % 2) 1) in
+      let e : d (a % 2) (b % 2) ≡ pick c 1 0 = tests (a % 2) (b % 2) (omega arith) (omega arith) in
+      let l : pick c 1 0 ≤ 1 = pick-ind (λ (x : ℕ). x ≤ 1) c 1 0 (λ _. omega arith) (λ _. omega arith) in
+      (omega (arith, step a b), omega (arith, step a b))
+
+  -- each member is what t says
+  member-made : (f a b : ℕ) → member f (o a b) ≡ t (member f a) (member f b)
+  unfolding member digit
+  member-made zero a b = rw (made-low a b .0) (one (t (eqb (a % 2) 1) (eqb (b % 2) 1)))
+    where
+      one : (c : Bool) → eqb (pick c 1 0) 1 ≡ c
+      one true = unfold pick in refl
+      one false = unfold pick in refl
+  member-made (suc f) a b = rw (made-low a b .1) (member-made f (a / 2) (b / 2))
+
+module _ (f a b : ℕ) where
+  -- the members of the machine's `and` are those of both
+  pub member-and : member f (bitAnd a b) ≡ (member f a && member f b)
+  unfolding pick
+  member-and =
+      member-made bitAnd min (λ x y. x && y) and-step
+      (two-digits (λ x y. min x y ≡ pick (eqb x 1 && eqb y 1) 1 0) refl refl refl refl) f a b
+
+  -- the members of the machine's `or` are those of either
+  pub member-or : member f (bitOr a b) ≡ (member f a || member f b)
+  unfolding pick
+  member-or =
+      member-made bitOr max (λ x y. x || y) or-step
+      (two-digits (λ x y. max x y ≡ pick (eqb x 1 || eqb y 1) 1 0) refl refl refl refl) f a b
+
+  -- the members of the machine's `xor` with what is in both are those of the first that the second has not
+  pub member-less : member f (bitXor a (bitAnd a b)) ≡ (member f a && not (member f b))
+  unfolding pick
+  member-less =
+      member-made (λ x y. bitXor x (bitAnd x y)) (λ x y. differ x (min x y)) (λ x y. x && not y) step
+      (two-digits (λ x y. differ x (min x y) ≡ pick (eqb x 1 && not (eqb y 1)) 1 0) refl refl refl refl) f a b
+    where
+      step : (x y : ℕ) → bitXor x (bitAnd x y) ≡ bitXor (x / 2) (bitAnd (x / 2) (y / 2)) * 2 + differ (x % 2) (min (x % 2) (y % 2))
+      step x y =
+          let h : bitAnd x y / 2 ≡ bitAnd (x / 2) (y / 2) = omega (arith, and-step x y) in
+          let l : bitAnd x y % 2 ≡ min (x % 2) (y % 2) = omega (arith, and-step x y) in
+          rw (h, l) at (xor-step x (bitAnd x y))

@@ -1,14 +1,14 @@
 -- Lists made from places, which is what a view of a table is: an element changed, taken out, put at the end or looked for.
 -- Assumes nothing.
 use Prim.Native.Nat.{ℕ, suc, zero, _+_, _≤_, _<_}
-use mathlib.Core.Path.{_≡_, refl, ap, _∙_}
+use mathlib.Core.Path.{_≡_, refl, sym, ap, _∙_}
 use mathlib.Core.Bool.{Bool, true, false}
-use mathlib.Core.List.{List, [], _∷_, _++_}
+use mathlib.Core.List.{List, [], _∷_, _++_, map}
 use mathlib.Core.Logic.{_≢_}
 use native.Mathlib.Omega.{arith}
 use native.Mathlib.Nat.{add-zero}
 use native.Mathlib.Numerals.{add-one}
-use lib.ListN.{length, getD, drop}
+use lib.ListN.{length, getD, drop, set, replicate}
 use Rattle.laws.specs.Pick.{pick, pick-ind, pick-ap, pick-eq}
 use Rattle.laws.specs.Loop.{first}
 use Rattle.laws.specs.Rows.{at, at-same, at-other}
@@ -146,6 +146,19 @@ module _ {A : Type 0} where
   at-onAt d zero f (a ∷ l) = refl
   at-onAt d (suc i) f (a ∷ l) = rw (at-onAt d i f l)
 
+  -- where h is g but for one place, where it is x, h makes the list of g with x stored there
+  pub tab-set : (g h : ℕ → A) (x : A) (i m j : ℕ) → h (i + j) ≡ x → ((k : ℕ) → i ≤ k → k < i + m → k ≢ i + j → h k ≡ g k)
+      → tab h i m ≡ set (tab g i m) j x
+  unfolding at
+  tab-set g h x i m j e o = tab-at g h (λ _. x) i m j e o ∙ sym (at-onAt x j (λ _. x) (tab g i m))
+
+  -- what is x at each place makes a list of x
+  pub tab-replicate : (g : ℕ → A) (x : A) (i m : ℕ) → ((k : ℕ) → i ≤ k → k < i + m → g k ≡ x) → tab g i m ≡ replicate m x
+  unfolding tab
+  tab-replicate g x i zero e = refl
+  tab-replicate g x i (suc m) e =
+      rw (e i (omega arith) (omega arith), tab-replicate g x (suc i) m (λ k a b. e k (omega arith) (omega arith)))
+
   -- a change keeps the length
   pub length-onAt : (i : ℕ) (f : A → A) (l : List A) → length (onAt i f l) ≡ length l
   unfolding onAt
@@ -193,6 +206,12 @@ module _ {A : Type 0} where
       go zero k (a ∷ l) h = refl
       go (suc i) zero (a ∷ l) h = absurd (omega arith)
       go (suc i) (suc k) (a ∷ l) h = go i k l (omega arith)
+
+-- what f makes of the elements is what it makes at each place
+pub map-tab : {A B : Type 0} (f : A → B) (g : ℕ → A) (i m : ℕ) → map f (tab g i m) ≡ tab (λ k. f (g k)) i m
+unfolding tab
+map-tab f g i zero = refl
+map-tab f g i (suc m) = rw (map-tab f g (suc i) m)
 
 module _ {A : Type 0} (p : A → Bool) where
   -- a search in a list gives at most the length

@@ -1,6 +1,7 @@
 pub mod Slots
 pub mod Class
 pub mod Face
+pub mod FaceLaws
 pub mod Route
 pub mod Entry
 pub mod Stored

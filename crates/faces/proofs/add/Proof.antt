@@ -2,7 +2,7 @@
 use borrow.Author.Needs.{needs}
 use native.Mathlib.Omega.{arith}
 use Prim.Native.Nat.{_-_}
-use Rattle.faces.specs.SetLaws.{face-yes, face-no}
+use Rattle.records.specs.FaceLaws.{face-yes, face-no}
 use Rattle.faces.specs.Set.{withFace}
 use Rattle.laws.specs.Digits.{or-added}
 use Rattle.laws.specs.Pick.{pick}

@@ -2,7 +2,7 @@
 use borrow.Author.Needs.{needs}
 use native.Mathlib.Omega.{arith}
 use Prim.Native.Nat.{_-_}
-use Rattle.faces.specs.SetLaws.{face-yes, face-no}
+use Rattle.records.specs.FaceLaws.{face-yes, face-no}
 use Rattle.faces.specs.Set.{hasFace}
 use Rattle.laws.specs.Digits.{member, digit-shift}
 use Rattle.faces.proofs.has.Statement.{statement}
