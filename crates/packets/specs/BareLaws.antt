@@ -4,7 +4,7 @@ use Prim.Native.Nat.{ℕ, _+_, _-_, _^_, _≤_, _<_}
 use mathlib.Core.Path.{_≡_, refl, sym}
 use mathlib.Core.Bool.{Bool, true, false}
 use mathlib.Core.List.{List}
-use lib.ListN.{length, getD, take, drop, length-drop}
+use lib.ListN.{length, take, drop, length-drop}
 use lib.Dec.{eqb}
 use borrow.Author.Tests.{lt-ltb, le-ltb, ne-eqb}
 use native.Mathlib.Omega.{arith}
@@ -19,7 +19,7 @@ use Rattle.grammar.specs.declared.Place.{Place}
 use Rattle.grammar.specs.declared.Found.{Found}
 use Rattle.grammar.specs.Table.{interest, dat}
 use Rattle.grammar.specs.Walk.{Field, absent, here, Fields, walked, placeIn, foundIn}
-use Rattle.grammar.specs.WalkLaws.{FieldIn, walked-in, place-of, place-inside}
+use Rattle.grammar.specs.WalkLaws.{FieldIn, walked-in, place-inside}
 use Rattle.names.specs.declared.component.Counted.{Counted}
 use Rattle.names.specs.Name.{counted}
 use Rattle.packets.specs.declared.header.Nacked.{Nacked}
@@ -28,7 +28,8 @@ use Rattle.packets.specs.declared.bare.Interest.{Interest}
 use Rattle.packets.specs.declared.bare.Packet.{Packet}
 use Rattle.packets.specs.Header.{val, bytesIn, missing, present, partAt, wholeNumber}
 use Rattle.packets.specs.Bare.{refused, askedBy, namedInterest, interestRead, namedData, dataValue, kindRead, bareRead, capped, lifetimeOf, freshnessOf, hopIn, interestIn, packetIn}
-use Rattle.packets.specs.PartLaws.{part-field}
+use Rattle.packets.specs.PartLaws as part
+use Rattle.packets.specs.PartLaws.{part-field, placeOf}
 
 -- ---- by places: an absent field has its place at 0
 
@@ -82,10 +83,6 @@ dataFrom m base v = packetIn (base + length v) (dataValue m v)
 
 -- ---- what a walk found
 
--- the place of an order among those that a walk found
-abbrev pub placeOf : Found → ℕ → Place
-placeOf f o = getD (f .places) o (record { at = 0; len = 0 })
-
 -- f is what the walk over v, the value of a parent p, found; and the places of v, which stands at base, fit a word
 pub record IsFound (p : ℕ) (v : List ℕ) (base : ℕ) (f : Found) : Type 0 where
   pub found : f ≡ foundIn (length v) (walked p v)
@@ -138,13 +135,12 @@ length-field n (here v k) = refl
 module _ {p : ℕ} {v : List ℕ} {base : ℕ} {f : Found} (h : IsFound p v base f) where
   -- what the walk says
   pub found-said : walked p v .said ≡ f .said
-  unfolding foundIn
-  found-said = rw (h .found)
+  found-said = part.found-said p v (h .found)
 
   module _ (o : ℕ) where
     -- the place of a field
     found-place : placeOf f o ≡ placeIn (length v) (val (walked p v) o)
-    found-place = rw (h .found) (place-of (length v) (walked p v) o)
+    found-place = part.found-place p v (h .found) o
 
     -- whether it is missing
     pub found-missing : missing (val (walked p v) o) ≡ eqb (placeOf f o .at) 0
@@ -152,7 +148,7 @@ module _ {p : ℕ} {v : List ℕ} {base : ℕ} {f : Found} (h : IsFound p v base
 
     -- its bytes
     pub found-bytes : bytesIn (val (walked p v) o) ≡ partAt v (placeOf f o)
-    found-bytes = rw found-place (sym (part-field (walked-in p v o)))
+    found-bytes = sym (part.found-part p v (h .found) o)
 
     -- how many they are
     pub found-length : length (bytesIn (val (walked p v) o)) ≡ placeOf f o .len

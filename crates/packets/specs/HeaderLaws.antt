@@ -5,7 +5,7 @@ use mathlib.Core.Path.{_≡_, refl, sym, _∙_, ap}
 use mathlib.Core.Bool.{Bool, false}
 use mathlib.Core.Logic.{_≢_}
 use mathlib.Core.List.{List}
-use lib.ListN.{length, getD, take, drop, length-drop}
+use lib.ListN.{length, take, drop, length-drop}
 use lib.Dec.{eqb}
 use borrow.Author.Tests.{lt-ltb, le-ltb, eq-eqb, ne-eqb}
 use native.Mathlib.Omega.{arith}
@@ -22,39 +22,11 @@ use Rattle.grammar.specs.declared.Place.{Place}
 use Rattle.grammar.specs.declared.Found as places
 use Rattle.grammar.specs.Table.{table, rowOf, outer, lp, nack}
 use Rattle.grammar.specs.Walk.{Field, absent, here, walked, placeIn, foundIn}
-use Rattle.grammar.specs.WalkLaws.{FieldIn, walked-in, place-of, place-inside, place-absent, place-here, absent-at}
+use Rattle.grammar.specs.WalkLaws.{FieldIn, walked-in, place-absent, place-here, absent-at}
 use Rattle.packets.specs.declared.header.Nacked.{Nacked}
 use Rattle.packets.specs.declared.header.Header.{Header}
-use Rattle.packets.specs.PartLaws.{part-field}
+use Rattle.packets.specs.PartLaws.{placeOf, found-said, found-place, found-part}
 use Rattle.packets.specs.Header.{val, bytesIn, partAt, wholeNumber, Came, refused, bare, nackedBy, fragmentRead, lpFields, lpRead, outerRead, headerRead, headerFrom, headerIn}
-
--- the bytes at the place of a walk's field are the field's bytes, none for an absent one
-pub walked-part : (p : ℕ) (l : List ℕ) (o : ℕ) {x : Field} → x ≡ val (walked p l) o → partAt l (placeIn (length l) x) ≡ bytesIn x
-walked-part p l o {x} e = let h : FieldIn l x = rw e (walked-in p l o) in part-field h
-
--- ---- the places that a walk found
-
--- the place of an order among those that are found
-abbrev pub placeOf : places.Found → ℕ → Place
-placeOf f o = getD (f .places) o (record { at = 0; len = 0 })
-
-module _ (p : ℕ) (s : List ℕ) {f : places.Found} (is : f ≡ foundIn (length s) (walked p s)) where
-  -- what a walk says is found
-  pub found-said : walked p s .said ≡ f .said
-  unfolding foundIn
-  found-said = sym (ap (λ (g : places.Found). g .said) is)
-
-  -- the place of each of its fields is found
-  pub found-place : (o : ℕ) → placeOf f o ≡ placeIn (length s) (val (walked p s) o)
-  found-place o = ap (λ (g : places.Found). placeOf g o) is ∙ place-of (length s) (walked p s) o
-
-  -- at the place are its bytes
-  pub found-part : (o : ℕ) → partAt s (placeOf f o) ≡ bytesIn (val (walked p s) o)
-  found-part o = ap (partAt s) (found-place o) ∙ walked-part p s o refl
-
-  -- the place lies within the parent
-  pub found-inside : (o : ℕ) → placeOf f o .at + placeOf f o .len ≤ length s
-  found-inside o = rw (found-place o) (place-inside (walked-in p s o))
 
 -- ---- an LpPacket
 
