@@ -1,16 +1,17 @@
 -- Lists made from places, which is what a view of a table is: an element changed, taken out, put at the end or looked for.
 -- Assumes nothing.
-use Prim.Native.Nat.{ℕ, suc, zero, _+_, _≤_, _<_}
+use Prim.Native.Nat.{ℕ, suc, zero, _+_, _-_, _≤_, _<_, min}
 use mathlib.Core.Path.{_≡_, refl, sym, ap, _∙_}
 use mathlib.Core.Bool.{Bool, true, false}
 use mathlib.Core.List.{List, [], _∷_, _++_, map}
 use mathlib.Core.Logic.{_≢_}
 use native.Mathlib.Omega.{arith}
-use native.Mathlib.Nat.{add-zero}
+use native.Mathlib.Nat.{add-zero, zero-add}
 use native.Mathlib.Numerals.{add-one}
-use lib.ListN.{length, getD, drop, set, replicate}
+use lib.ListN.{length, getD, take, drop, set, replicate}
+use lib.Seq.{ext-getD}
 use Rattle.laws.specs.Pick.{pick, pick-ind, pick-ap, pick-eq}
-use Rattle.laws.specs.Loop.{first}
+use Rattle.laws.specs.Loop.{first, turns}
 use Rattle.laws.specs.Rows.{at, at-same, at-other}
 
 module _ {A : Type 0} where
@@ -152,6 +153,13 @@ module _ {A : Type 0} where
   unfolding at
   tab-set g h x i m j e o = tab-at g h (λ _. x) i m j e o ∙ sym (at-onAt x j (λ _. x) (tab g i m))
 
+  -- a change to what is given is a store
+  pub onAt-set : (i : ℕ) (a : A) (l : List A) → onAt i (λ _. a) l ≡ set l i a
+  unfolding onAt
+  onAt-set i a [] = refl
+  onAt-set zero a (b ∷ l) = refl
+  onAt-set (suc i) a (b ∷ l) = rw (onAt-set i a l)
+
   -- what is x at each place makes a list of x
   pub tab-replicate : (g : ℕ → A) (x : A) (i m : ℕ) → ((k : ℕ) → i ≤ k → k < i + m → g k ≡ x) → tab g i m ≡ replicate m x
   unfolding tab
@@ -187,6 +195,19 @@ module _ {A : Type 0} where
   length-without i [] h = absurd (omega arith)
   length-without zero (a ∷ l) h = omega arith
   length-without (suc i) (a ∷ l) h = omega (arith, length-without i l (omega arith))
+
+  -- without an element below m a list of at most m elements has room for one more
+  pub without-less : (i m : ℕ) (l : List A) → length l ≤ m → i < m → length (without i l) < m
+  unfolding without
+  without-less i m [] h g = omega arith
+  without-less zero m (a ∷ l) h g = omega arith
+  without-less (suc i) m (a ∷ l) h g = omega (arith, without-less i (m - 1) l (omega arith) (omega arith))
+
+  -- without its first element a list is what follows it
+  pub without-first : (l : List A) → without 0 l ≡ drop 1 l
+  unfolding without
+  without-first [] = refl
+  without-first (a ∷ l) = refl
 
   -- each element before the one taken out keeps its place
   pub getD-without-before : (i k : ℕ) (l : List A) (d : A) → k < i → getD (without i l) k d ≡ getD l k d
@@ -235,3 +256,41 @@ module _ {A : Type 0} (p : A → Bool) where
   indexOf-before (a ∷ l) (suc k) d =
       pick-ind (λ (r : ℕ). suc k < r → p (getD l k d) ≡ false) (p a) _ _ (λ _ h. absurd (omega arith))
       (λ _ h. indexOf-before l k d (omega arith))
+
+module _ {A : Type 0} (g : ℕ → A) where
+  -- the first k elements are what g gives at the first k places
+  pub take-tab : (i m k : ℕ) → take k (tab g i m) ≡ tab g i (min k m)
+  unfolding tab
+  take-tab i m zero = let z : min 0 m ≡ 0 = omega arith in rw z
+  take-tab i zero (suc k) = let z : min (suc k) 0 ≡ 0 = omega arith in rw z
+  take-tab i (suc m) (suc k) = let z : min (suc k) (suc m) ≡ suc (min k m) = omega arith in rw (z, take-tab (suc i) m k)
+
+  -- without the first k elements there is what g gives from k places on
+  pub drop-tab : (i m k : ℕ) → drop k (tab g i m) ≡ tab g (i + k) (m - k)
+  unfolding tab
+  drop-tab i m zero = let z : m - 0 ≡ m = omega arith in rw (z, add-zero)
+  drop-tab i zero (suc k) = let z : 0 - suc k ≡ 0 = omega arith in rw z
+  drop-tab i (suc m) (suc k) =
+      let z : suc m - suc k ≡ m - k = omega arith in
+      let s : i + suc k ≡ suc i + k = omega arith in
+      rw (z, s, drop-tab (suc i) m k)
+
+-- a list is made from its places
+pub tab-list : {A : Type 0} (l : List A) (d : A) → tab (λ i. getD l i d) 0 (length l) ≡ l
+tab-list {A} l d =
+    let g : (ℕ → A) = (λ i. getD l i d) in
+    ext-getD d (tab g 0 (length l)) l (length-tab g 0 (length l))
+    (λ i h. getD-tab g 0 (length l) i d (omega (arith, length-tab g 0 (length l))) ∙ rw zero-add)
+
+module _ {A : Type 0} (g : A → A) where
+  -- turns that change elements after the first leave the first
+  turns-behind : (i m : ℕ) (a : A) (l : List A) → turns (λ k t. onAt k g t) (suc i) m (a ∷ l) ≡ a ∷ turns (λ k t. onAt k g t) i m l
+  unfolding turns onAt
+  turns-behind i zero a l = refl
+  turns-behind i (suc m) a l = turns-behind (suc i) m a (onAt i g l)
+
+  -- a turn for each element, that changes it, changes them all
+  pub turns-map : (l : List A) → turns (λ k t. onAt k g t) 0 (length l) l ≡ map g l
+  unfolding turns onAt
+  turns-map [] = refl
+  turns-map (a ∷ l) = turns-behind 0 (length l) (g a) l ∙ rw (turns-map l)

@@ -7,7 +7,7 @@ use native.Mathlib.Omega.{arith}
 use native.Mathlib.Nat.{add-zero}
 use native.Mathlib.Numerals.{add-one}
 use lib.ListN.{length, getD, set, take, drop}
-use lib.Seq.{sets, length-sets, sets-eq, take-suc, take-all, take-at, drop-at, length-take-le}
+use lib.Seq.{sets, length-sets, sets-eq, take-suc, take-all, take-at, drop-at, length-take-le, set-out}
 
 module _ {A : Type 0} where
   -- a run of two parts is the run of the first, and the run of the second from where the first ended
@@ -25,6 +25,11 @@ module _ {A : Type 0} where
       let r = drop (i + length vs) l in
       let e : sets l i vs ≡ take i l ++ (vs ++ r) = sets-eq vs l i h ∙ append-assoc (take i l) vs r in
       rw (e, drop-at (take i l) (vs ++ r) i (length-take-le i l (omega arith))) (take-at vs r (length vs) refl)
+
+  -- a run that starts past the end stores nothing
+  pub sets-out : (vs l : List A) (i : ℕ) → length l ≤ i → sets l i vs ≡ l
+  sets-out [] l i h = refl
+  sets-out (v ∷ vs) l i h = rw (set-out l i v h) (sets-out vs l (suc i) (omega arith))
 
 -- c is b after the first i elements of s were copied into it from place `at` on
 pub record Copied {A : Type 0} (b : List A) (at : ℕ) (s c : List A) (i : ℕ) : Type 0 where

@@ -8,3 +8,5 @@ pub mod Stored
 pub mod Line
 pub mod Happening
 pub mod Ageing
+pub mod PlaceLaws
+pub mod ClassLaws

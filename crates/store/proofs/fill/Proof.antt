@@ -1,0 +1,21 @@
+-- The row has room for the bytes, so they are written whole.
+use borrow.Author.Needs.{needs}
+use native.Mathlib.Omega.{arith}
+use Rattle.store.specs.Laws.{filled}
+use Rattle.store.proofs.fill.Statement.{statement}
+use Rattle.store.proofs.fill.Tie as tie
+
+has-all-bytes-requires : tie.Need-has-all-bytes-requires
+has-all-bytes-requires c κs = search needs
+
+put-bytes-requires : tie.Need-put-bytes-requires
+put-bytes-requires c κs = search needs
+
+returns : tie.Need-returns
+returns c =
+    let r = c .before in
+    let a = r .before .before .before .before .args in
+    filled _ (a .row .now) _ (a .bytes .now) (omega arith) (c .put-bytes .ensures)
+
+pub fill-spec : {M : Type 1} → statement M
+fill-spec = tie.close (tie.spec has-all-bytes-requires put-bytes-requires returns)

@@ -1,0 +1,70 @@
+-- The loop's invariant: the first of all Data with the name is the first from place i on.
+use borrow.Author.Needs.{needs}
+use native.Mathlib.Omega.{arith}
+use mathlib.Core.Path.{_≡_, sym, ap, _∙_}
+use Prim.Native.Nat.{_-_}
+use Rattle.laws.specs.Tab.{indexOf}
+use Rattle.laws.specs.Loop.{from-zero, first, first-hit, first-miss, first-end}
+use Rattle.names.specs.Name.{sameBytes}
+use Rattle.store.specs.View.{storedAt, view, view-find}
+use Rattle.store.specs.Laws.{isNamed}
+use Rattle.store.proofs.find.Statement.{statement}
+use Rattle.store.proofs.find.Tie as tie
+
+abbrev Inv-loop : tie.InvT-loop
+Inv-loop packets heads count name n i₀ i =
+    indexOf (isNamed name) (view packets heads count) ≡ first (λ k. isNamed name (storedAt packets heads k)) i (n - i)
+
+abbrev μ-loop : tie.MeasureT-loop
+μ-loop packets heads count name n i₀ i = n - i
+
+clamped-requires : tie.Need-clamped-requires Inv-loop μ-loop
+clamped-requires c κs = search needs
+
+loop-holds : tie.Need-loop-holds Inv-loop μ-loop
+loop-holds c =
+    let a = c .before .before .args in
+    rw (from-zero, c .clamped .ensures) (sym (view-find (a .packets .now) (a .heads .now) (a .count) (isNamed (a .name .now))))
+
+name-at-requires : tie.Need-name-at-requires Inv-loop μ-loop
+name-at-requires c κs = search needs
+
+same-requires : tie.Need-same-requires Inv-loop μ-loop
+same-requires c κs = search needs
+
+returns : tie.Need-returns Inv-loop μ-loop
+returns c =
+    let l = c .before .before .before .before in
+    let named = sym (c .before .same .ensures ∙ ap (sameBytes _) (c .before .before .name-at .ensures)) in
+    sym (l .loop .inv ∙ first-hit _ _ _ (omega arith) (named ∙ c .if1 .taken))
+
+add-i : tie.Need-add-i Inv-loop μ-loop
+add-i c = search needs
+
+loop-less : tie.Need-loop-less Inv-loop μ-loop
+loop-less c = search needs
+
+loop-again : tie.Need-loop-again Inv-loop μ-loop
+loop-again c =
+    let l = c .before .before .before .before in
+    let named = sym (c .before .same .ensures ∙ ap (sameBytes _) (c .before .before .name-at .ensures)) in
+    l .loop .inv ∙ first-miss _ _ _ (omega arith) (named ∙ c .if1 .left)
+
+returns-2 : tie.Need-returns-2 Inv-loop μ-loop
+returns-2 c = sym (c .before .loop .inv ∙ first-end _ _ _ (omega arith))
+
+pub find-spec : {M : Type 1} → statement M
+find-spec =
+    tie.close
+    (tie.spec
+    Inv-loop
+    μ-loop
+    clamped-requires
+    loop-holds
+    name-at-requires
+    same-requires
+    returns
+    add-i
+    loop-less
+    loop-again
+    returns-2)

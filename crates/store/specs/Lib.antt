@@ -1,0 +1,4 @@
+pub mod View
+pub mod Laws
+pub mod Lookup
+pub mod Hits

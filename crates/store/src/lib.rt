@@ -1,0 +1,275 @@
+// The store: Data in the order of their use, each packet in a row, the least recently stored or hit first.
+use names::Order;
+use names::compare;
+use names::is_prefix;
+use names::same;
+use packets::find_name;
+use rows::clamped;
+use rows::part;
+use wire::put_bytes;
+ghost use Prim.Native.Nat.{_<_, _≤_};
+ghost use mathlib.Core.Path.{_≡_};
+ghost use mathlib.Core.List.{[]};
+ghost use lib.ListN.{length, take};
+ghost use Rattle.laws.specs.Tab.{indexOf, without};
+ghost use Rattle.records.specs.Slots.{given, atPlace};
+ghost use Rattle.records.specs.Stored.{serves, isBefore, earlier, lookup};
+ghost use Rattle.store.specs.View.{view, dataOf, storedAt, Puts, recent};
+ghost use Rattle.store.specs.Laws.{isNamed, leaver};
+ghost use Rattle.store.specs.Lookup.{answers, inTime, hit, hitAt};
+
+// "stored Data 8", "Packet at most 1,500 bytes": the packets, lent by the caller.
+pub type Packets = [[u8; 1500]; 8];
+
+// For each packet its length, when it was stored, and its freshness as it counts.
+pub type Heads = [[u64; 3]; 8];
+
+// Whether a Data was stored, and how many there are then.
+pub struct Changed {
+    pub fits: bool,
+    pub count: usize,
+}
+
+// How many Data there are.
+pub fn size(packets: &Packets, heads: &Heads, count: usize) -> usize
+    ensures { λ r. ⌜ r ≡ length (view (now (packets .entry)) (now (heads .entry)) count) ⌝ }
+{
+    clamped(count, 8)
+}
+
+// The bytes of the Data at a place, where they stand; none where there is no Data.
+pub fn bytes_of<'a>(packets: &'a Packets, heads: &Heads, count: usize, i: usize) -> &'a [u8]
+    ensures { λ r. ⌜ now r ≡ given [] (λ d. d .bytes) (atPlace i (view (now (packets .entry)) (now (heads .entry)) count)) ⌝ }
+{
+    if i < clamped(count, 8) {
+        part(&packets[i], heads[i][0])
+    } else {
+        part(&packets[0], 0)
+    }
+}
+
+// The name of the Data in a row, where it stands in the packet.
+fn name_at<'a>(packets: &'a Packets, heads: &Heads, i: usize) -> &'a [u8]
+    requires { ⌜ i < 8 ⌝ }
+    ensures { λ r. ⌜ now r ≡ storedAt (now (packets .entry)) (now (heads .entry)) i .name ⌝ }
+{
+    find_name(part(&packets[i], heads[i][0]))
+}
+
+// The place of the Data with a name, else the number of Data.
+fn find(packets: &Packets, heads: &Heads, count: usize, name: &[u8]) -> usize
+    ensures { λ r. ⌜ r ≡ indexOf (isNamed (now (name .entry))) (view (now (packets .entry)) (now (heads .entry)) count) ⌝ }
+{
+    let n = clamped(count, 8);
+    let mut i: usize = 0;
+    while i < n {
+        if same(name, name_at(packets, heads, i)) {
+            return i;
+        }
+        i += 1;
+    }
+    i
+}
+
+// The place of the Data that gives way to a new one of a name: the equal name's, else, in a full store, that of the least recent; else the
+// number of Data.
+fn leaving(packets: &Packets, heads: &Heads, count: usize, name: &[u8]) -> usize
+    ensures { λ r. ⌜ r ≡ leaver (now (name .entry)) (view (now (packets .entry)) (now (heads .entry)) count) ⌝ }
+    ensures { λ r. ⌜ r < 8 ⌝ }
+{
+    let i = find(packets, heads, count, name);
+    if i < 8 { i } else { 0 }
+}
+
+// A table has all its rows. It is said of a value, since of what stands behind a reference no length is known.
+fn has_all_packets(packets: Packets)
+    ensures { λ _. ⌜ length packets ≡ 8 ⌝ }
+{}
+
+// A table has all its heads.
+fn has_all_heads(heads: Heads)
+    ensures { λ _. ⌜ length heads ≡ 8 ⌝ }
+{}
+
+// A row has all its bytes.
+fn has_all_bytes(row: [u8; 1500])
+    ensures { λ _. ⌜ length row ≡ 1500 ⌝ }
+{}
+
+// The Data at a place goes, and those after it move one place down; a place past the last changes nothing. How many there are then.
+fn take_out(packets: &mut Packets, heads: &mut Heads, count: usize, i: usize) -> usize
+    requires { ⌜ i < 8 ⌝ }
+    ensures { λ r. ⌜ view (now (packets .exit)) (now (heads .exit)) r ≡ without i (view (now (packets .entry)) (now (heads .entry)) count) ⌝ }
+    ensures { λ r. ⌜ r < 8 ⌝ }
+{
+    let n = clamped(count, 8);
+    if n <= i {
+        return n;
+    }
+    has_all_packets(*packets);
+    has_all_heads(*heads);
+    let mut k: usize = i + 1;
+    while k < n {
+        packets[k - 1] = packets[k];
+        heads[k - 1] = heads[k];
+        k += 1;
+    }
+    n - 1
+}
+
+// Bytes into a row that has room for them.
+fn fill(row: &mut [u8; 1500], bytes: &[u8])
+    requires { ⌜ length (now bytes) ≤ 1500 ⌝ }
+    ensures { λ _. ⌜ take (length (now (bytes .entry))) (now (row .exit)) ≡ now (bytes .entry) ⌝ }
+{
+    has_all_bytes(*row);
+    put_bytes(row, 0, bytes);
+}
+
+// "The store replaces an equal name, else, when full, evicts the least recently stored or hit." Bytes that are no packet's size change nothing.
+pub fn put(
+    packets: &mut Packets,
+    heads: &mut Heads,
+    count: usize,
+    bytes: &[u8],
+    time: u64,
+    freshness: u64,
+) -> Changed
+    ensures { λ r. ⌜ Puts r (view (now (packets .exit)) (now (heads .exit)) (r .count)) (dataOf (now (bytes .entry)) time freshness) (view (now (packets .entry)) (now (heads .entry)) count) ⌝ }
+{
+    if 1500 < bytes.len() {
+        return Changed {
+            fits: false,
+            count: count,
+        };
+    }
+    let i = leaving(packets, heads, count, find_name(bytes));
+    let n = take_out(packets, heads, count, i);
+    has_all_packets(*packets);
+    has_all_heads(*heads);
+    fill(&mut packets[n], bytes);
+    heads[n] = [bytes.len() as u64, time, freshness];
+    Changed {
+        fits: true,
+        count: n + 1,
+    }
+}
+
+// Whether a lookup may take a Data by its time: "with MustBeFresh only while now < storing time + freshness", with no sum that could be
+// too large.
+fn is_in_time(head: &[u64; 3], fresh: bool, time: u64) -> bool
+    ensures { λ r. ⌜ r ≡ inTime time fresh (now (head .entry)) ⌝ }
+{
+    if fresh {
+        if time < head[1] {
+            true
+        } else {
+            time - head[1] < head[2]
+        }
+    } else {
+        true
+    }
+}
+
+// Whether a lookup may take the Data in a row by its name: "an equal name, with CanBePrefix also any name extending it".
+fn is_named(packets: &Packets, heads: &Heads, i: usize, name: &[u8], prefix: bool) -> bool
+    requires { ⌜ i < 8 ⌝ }
+    ensures { λ r. ⌜ r ≡ answers (now (name .entry)) prefix (storedAt (now (packets .entry)) (now (heads .entry)) i .name) ⌝ }
+{
+    if prefix {
+        is_prefix(name, name_at(packets, heads, i))
+    } else {
+        same(name, name_at(packets, heads, i))
+    }
+}
+
+// Whether a lookup may take the Data in a row.
+fn is_served(
+    packets: &Packets,
+    heads: &Heads,
+    i: usize,
+    name: &[u8],
+    prefix: bool,
+    fresh: bool,
+    time: u64,
+) -> bool
+    requires { ⌜ i < 8 ⌝ }
+    ensures { λ r. ⌜ r ≡ serves time (now (name .entry)) prefix fresh (storedAt (now (packets .entry)) (now (heads .entry)) i) ⌝ }
+{
+    if is_in_time(&heads[i], fresh, time) {
+        is_named(packets, heads, i, name, prefix)
+    } else {
+        false
+    }
+}
+
+// Whether the first of two comes before the second.
+fn is_before(order: Order) -> bool
+    ensures { λ r. ⌜ r ≡ isBefore order ⌝ }
+{
+    match order {
+        Order::Before => true,
+        Order::Same => false,
+        Order::After => false,
+    }
+}
+
+// Of a Data and the best of those after it, the place of the first in canonical order. The number of Data stands for no best.
+fn earlier_of(packets: &Packets, heads: &Heads, n: usize, i: usize, best: usize) -> usize
+    requires { ⌜ (i < n) × (n ≤ 8) ⌝ }
+    ensures { λ r. ⌜ hitAt (now (packets .entry)) (now (heads .entry)) n r ≡ earlier (hit (now (packets .entry)) (now (heads .entry)) i) (hitAt (now (packets .entry)) (now (heads .entry)) n best) ⌝ }
+    ensures { λ r. ⌜ r ≤ n ⌝ }
+{
+    if n <= best {
+        return i;
+    }
+    if is_before(compare(name_at(packets, heads, best), name_at(packets, heads, i))) {
+        best
+    } else {
+        i
+    }
+}
+
+// The place of the Data that a lookup takes: "of those it takes the first in canonical order". The number of Data where it takes none.
+pub fn look(
+    packets: &Packets,
+    heads: &Heads,
+    count: usize,
+    name: &[u8],
+    prefix: bool,
+    fresh: bool,
+    time: u64,
+) -> usize
+    ensures { λ r. ⌜ r ≡ given (length (view (now (packets .entry)) (now (heads .entry)) count)) (λ h. h .place) (lookup time (now (name .entry)) prefix fresh (view (now (packets .entry)) (now (heads .entry)) count)) ⌝ }
+{
+    let n = clamped(count, 8);
+    let mut best = n;
+    let mut i = n;
+    while 0 < i {
+        i -= 1;
+        if is_served(packets, heads, i, name, prefix, fresh, time) {
+            best = earlier_of(packets, heads, n, i, best);
+        }
+    }
+    best
+}
+
+// A hit becomes the most recent; a place past the last Data changes nothing.
+pub fn touch(packets: &mut Packets, heads: &mut Heads, count: usize, i: usize)
+    ensures { λ _. ⌜ view (now (packets .exit)) (now (heads .exit)) count ≡ recent i (view (now (packets .entry)) (now (heads .entry)) count) ⌝ }
+{
+    let n = clamped(count, 8);
+    if n == 0 {
+        return;
+    }
+    // The last is the most recent already.
+    if i < n - 1 {
+        let row = packets[i];
+        let head = heads[i];
+        let last = take_out(packets, heads, count, i);
+        has_all_packets(*packets);
+        has_all_heads(*heads);
+        packets[last] = row;
+        heads[last] = head;
+    }
+}
