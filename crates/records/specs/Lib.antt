@@ -3,6 +3,7 @@ pub mod Class
 pub mod Face
 pub mod FaceLaws
 pub mod Route
+pub mod LeastLaws
 pub mod Entry
 pub mod Stored
 pub mod Line

@@ -1,0 +1,17 @@
+-- Empty sets have no records, whatever the memory holds.
+use Rattle.entries.specs.ChangeLaws.{view-bare}
+use borrow.Author.Needs.{needs}
+use Rattle.entries.proofs.bare.Statement.{statement}
+use Rattle.entries.proofs.bare.Tie as tie
+
+word-requires : tie.Need-word-requires
+word-requires c κs = search needs
+
+word-requires-2 : tie.Need-word-requires-2
+word-requires-2 c κs = search needs
+
+returns : tie.Need-returns
+returns c = λ nm recs. rw (← (c .before .word .ensures), ← (c .word2 .ensures)) (view-bare 16 _ _ _ _ nm recs)
+
+pub bare-spec : {M : Type 1} → statement M
+bare-spec = tie.close (tie.spec word-requires word-requires-2 returns)
