@@ -42,6 +42,10 @@ module _ {A : Type 0} where
   some-there true x = refl
   some-there false x = refl
 
+-- each turn of a walk from the lowest face up leaves a smaller number
+pub lowest-less : (n s f : ℕ) → n ≤ 64 → f ≡ lowestOf n s → f ≤ n → withoutFace n s f < s
+lowest-less n s f w e h = without-less n s f (rw e (lowest-has n s w (omega arith)))
+
 module _ {A : Type 0} (n s : ℕ) (g : ℕ → A) where
   -- there is a slot for each face
   pub slots-length : length (slotsOf n s g) ≡ n

@@ -2,7 +2,6 @@
 -- Assumes nothing.
 use Prim.Native.Nat.{ℕ, _+_, _≤_, _<_, min}
 use mathlib.Core.Path.{_≡_, refl, sym, ap, _∙_}
-use mathlib.Core.Bool.{true}
 use mathlib.Core.List.{List, [], _∷_, _++_, map}
 use mathlib.Core.Logic.{⊎-elim}
 use native.Mathlib.Omega.{arith}
@@ -10,10 +9,9 @@ use native.Mathlib.Nat.{eq-or-lt-of-le}
 use lib.ListN.{length, length-append}
 use lib.Seq.{sets, length-sets}
 use Rattle.laws.specs.Writes.{sets-append, sets-out}
-use Rattle.faces.specs.Set.{hasFace, withoutFace, lowestOf}
-use Rattle.faces.specs.SetLaws.{lowest-has}
+use Rattle.faces.specs.Set.{withoutFace, lowestOf}
 use Rattle.faces.specs.Slots.{facesIn}
-use Rattle.faces.specs.SlotLaws.{without-less, held-more, held-end}
+use Rattle.faces.specs.SlotLaws.{lowest-less, held-more, held-end}
 use Rattle.happenings.specs.Noted.{noteOf, Notes}
 
 module _ (most : ℕ) where
@@ -67,9 +65,7 @@ module _ (most n class kind : ℕ) (before : List (List ℕ)) (at set : ℕ) whe
 
     -- a turn leaves a smaller number
     pub noting-less : (left′ : ℕ) → face ≤ n → left′ ≡ withoutFace n left face → left′ < left
-    noting-less left′ l e =
-        let there : hasFace n left face ≡ true = rw (h .lowest) (lowest-has n left w (omega arith)) in
-        omega (arith, without-less n left face there)
+    noting-less left′ l e = omega (arith, lowest-less n left face w (h .lowest) l)
 
     -- where no face is left all are noted
     pub noting-end : n < face → Notes most next rows before at (map (noteOf class kind) (facesIn n set))

@@ -1,6 +1,6 @@
--- The room that entries take: fewer entries take no more, and there are no more entries than the room they take.
+-- The room that entries take: fewer entries take no more.
 -- Assumes nothing.
-use Prim.Native.Nat.{ℕ, zero, suc, _+_, _≤_}
+use Prim.Native.Nat.{ℕ, zero, suc, _≤_}
 use mathlib.Core.Path.{_≡_, refl}
 use mathlib.Core.Bool.{Bool, true, false}
 use mathlib.Core.List.{List, [], _∷_, map}
@@ -8,7 +8,7 @@ use lib.ListN.{length}
 use native.Mathlib.Omega.{arith}
 use Rattle.laws.specs.Pick.{pick, pick-ind}
 use Rattle.laws.specs.Tab.{onAt, without}
-use Rattle.records.specs.Class.{Class, alarm, monitoring, bulk, noClass}
+use Rattle.records.specs.Class.{Class}
 use Rattle.records.specs.Slots.{only}
 use Rattle.records.specs.Entry.{Entry, usedBy, isAlarm, isMonitoring, isBulk, isOther, roomTaken}
 
@@ -93,24 +93,3 @@ module _ (es : List Entry) where
   pub room-onAt : (i : ℕ) (f : Entry → Entry) → ((e : Entry) → f e .cls ≡ e .cls) → roomTaken (onAt i f es) ≤ roomTaken es
   unfolding usedBy
   room-onAt i f k = room-less (onAt i f es) es (λ p. omega (arith, onAt-as-many (λ e. p (e .cls)) i f (λ e. rw (k e)) es))
-
--- each entry has one of the four classes
-used-all : (es : List Entry) → length es ≡ usedBy isAlarm es + usedBy isMonitoring es + usedBy isBulk es + usedBy isOther es
-unfolding usedBy only pick isAlarm isMonitoring isBulk isOther
-used-all [] = refl
-used-all (e ∷ es) = go (used-all es) (e .cls)
-  where
-    counted : (Class → Bool) → Class → List Entry
-    counted p c = pick (p c) (e ∷ only (λ x. p (x .cls)) es) (only (λ x. p (x .cls)) es)
-
-    go : length es ≡ usedBy isAlarm es + usedBy isMonitoring es + usedBy isBulk es + usedBy isOther es → (c : Class)
-        → suc (length es) ≡ length (counted isAlarm c) + length (counted isMonitoring c) + length (counted isBulk c) + length (counted isOther c)
-    go h alarm = omega arith
-    go h monitoring = omega arith
-    go h bulk = omega arith
-    go h (noClass k) = omega arith
-
--- there are no more entries than the room that they take
-pub entries-most : (es : List Entry) → length es ≤ roomTaken es
-unfolding roomTaken
-entries-most es = omega (arith, used-all es)

@@ -17,7 +17,7 @@ use Rattle.records.specs.Stored.{Stored}
 use Rattle.rules.specs.Node.{Node, mostRoutes, mostEntries, mostStored, mostDead}
 use Rattle.history.specs.Every.{All}
 use Rattle.history.specs.Apart.{Apart}
-use Rattle.history.specs.Room.{entries-most}
+use Rattle.records.specs.UseLaws.{entries-most}
 
 -- what is kept for a face is kept for an open one
 abbrev pub AtOpen : {A : Type 0} → List (Option Face) → List (Option A) → Type 0

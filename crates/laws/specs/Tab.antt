@@ -294,3 +294,16 @@ module _ {A : Type 0} (g : A → A) where
   unfolding turns onAt
   turns-map [] = refl
   turns-map (a ∷ l) = turns-behind 0 (length l) (g a) l ∙ rw (turns-map l)
+
+-- to drop more elements than there are is to drop all
+pub drop-most : {A : Type 0} (i : ℕ) (l : List A) → drop (min i (length l)) l ≡ drop i l
+drop-most zero l = let z : min 0 (length l) ≡ 0 = omega arith in rw z
+drop-most (suc i) [] = let z : min (suc i) 0 ≡ 0 = omega arith in rw z
+drop-most (suc i) (a ∷ l) = let z : min (suc i) (suc (length l)) ≡ suc (min i (length l)) = omega arith in rw z (drop-most i l)
+
+-- a change that changes nothing
+pub onAt-same : {A : Type 0} (i : ℕ) (l : List A) → onAt i (λ a. a) l ≡ l
+unfolding onAt
+onAt-same i [] = refl
+onAt-same zero (a ∷ l) = refl
+onAt-same (suc i) (a ∷ l) = rw (onAt-same i l)

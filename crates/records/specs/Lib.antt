@@ -11,3 +11,4 @@ pub mod Happening
 pub mod Ageing
 pub mod PlaceLaws
 pub mod ClassLaws
+pub mod UseLaws

@@ -6,19 +6,15 @@ use mathlib.Core.Bool.{Bool, true, false}
 use mathlib.Core.List.{List, [], _∷_, _++_}
 use mathlib.Core.Option.{Option, none, some}
 use lib.ListN.{length, getD, set, take, drop}
-use lib.Seq.{sets}
 use lib.Dec.{ltb, leb}
 use native.Mathlib.Omega.{arith}
 use borrow.Author.Tests.{ltb-true, ltb-false, lt-ltb, le-ltb, le-leb, lt-leb}
 use Rattle.laws.specs.Pick.{pick, pick-ind, pick-yes, pick-no}
 use Rattle.laws.specs.Tab.{indexOf, without, indexOf-le, without-out, length-without, without-less, without-first}
-use Rattle.laws.specs.Writes.{sets-back}
 use Rattle.names.specs.Name.{sameBytes}
 use Rattle.packets.specs.Name.{nameOf}
 use Rattle.records.specs.Slots.{given, atPlace}
 use Rattle.records.specs.Stored.{Stored, others, roomFor, stored}
-use Rattle.wire.specs.declared.write.Put.{Put}
-use Rattle.wire.specs.Write.{Outcome, outcome, wrote}
 use Rattle.store.specs.View.{storedOf, storedAt, view, dataOf, recent, kept, fitsRow, Puts, view-length, view-count, view-at, view-add}
 
 -- whether a Data has a name
@@ -45,16 +41,6 @@ stored-is d ds h =
     let n : i ≤ length ds = indexOf-le (isNamed (d .name)) ds in
     let l : ltb (length ds) 8 ≡ false = le-ltb (length ds) 8 (omega arith) in
     rw (without-out i ds (omega arith), l, pick-no, without-first ds))
-
--- the bytes that were written into a row from its first byte on are what it begins with
-pub filled : (r : Put) (old row bytes : List ℕ) → length bytes ≤ length old → outcome r row ≡ wrote old 0 bytes
-    → take (length bytes) row ≡ bytes
-unfolding wrote
-filled r old row bytes h e =
-    let l : leb (0 + length bytes) (length old) ≡ true = le-leb (0 + length bytes) (length old) (omega arith) in
-    let w : outcome r row ≡ outcome (Put.Next (0 + length bytes)) (sets old 0 bytes) = rw (l, pick-yes) at e in
-    let b : row ≡ sets old 0 bytes = ap (λ (o : Outcome). o .buffer) w in
-    rw b (sets-back bytes old 0 (omega arith))
 
 module _ (bytes : List ℕ) (time freshness : ℕ) (packets heads : List (List ℕ)) (count : ℕ) where
   -- bytes that are longer than a row change nothing

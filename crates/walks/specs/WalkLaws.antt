@@ -26,9 +26,9 @@ use Rattle.records.specs.Entry.{Sent, withRequests, isLive, ifLive, agedEntry, 
 use Rattle.records.specs.Line.{Line, joined, joinedAll}
 use Rattle.records.specs.Ageing.{buriedBy}
 use Rattle.faces.specs.Set.{hasFace, withFace, withoutFace, lowestOf, facesWhere}
-use Rattle.faces.specs.SetLaws.{has-after, has-added-same, has-added-other, has-removed-same, has-removed-other, lowest-has, lowest-before, where-has, where-is, where-ext}
+use Rattle.faces.specs.SetLaws.{has-after, has-added-same, has-added-other, has-removed-same, has-removed-other, lowest-before, where-has, where-is, where-ext, lowest-has}
 use Rattle.faces.specs.Slots.{slotsOf, slotFor}
-use Rattle.faces.specs.SlotLaws.{without-less, holds-there, slots-slot, slots-only, any-held, held-more, held-end}
+use Rattle.faces.specs.SlotLaws.{lowest-less, holds-there, slots-slot, slots-only, any-held, held-more, held-end}
 use Rattle.entries.specs.View.{requestAt, nackWord, sentAt, view, view-name, view-prefix, view-fresh, view-class, view-requests, view-sent}
 use Rattle.entries.specs.Operations.{overdue, newestIn, newestTime, earliestOf, nacksIn, nacksOf}
 use Rattle.entries.specs.ChangeLaws.{view-is}
@@ -65,7 +65,7 @@ module _ {n s f : ℕ} (a : Walks n s f) where
 
   -- each turn of a walk leaves a smaller set
   pub walk-less : f ≤ n → {t : ℕ} → t ≡ withoutFace n s f → t < s
-  walk-less l e = omega (arith, without-less n s f (walk-has l))
+  walk-less l e = omega (arith, lowest-less n s f (a .few) (a .lowest) l)
 
   -- a turn takes what is held for the face, and leaves what is held without it
   pub walk-more : f ≤ n → {t : ℕ} → t ≡ withoutFace n s f → {A : Type 0} (g : ℕ → A)

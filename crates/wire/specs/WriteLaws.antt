@@ -1,21 +1,21 @@
 -- Laws of writing: runs of stores, the bytes of a number, its shortest form, a head, a copy, and the two outcomes of a writer.
 -- Assumes nothing.
 use Prim.Native.Nat.{ℕ, zero, suc, _+_, _-_, _/_, _%_, _^_, _≤_, _<_}
-use mathlib.Core.Path.{_≡_, refl, sym, _∙_}
+use mathlib.Core.Path.{_≡_, refl, sym, ap, _∙_}
 use mathlib.Core.Bool.{Bool, true, false}
 use mathlib.Core.List.{List, [], _∷_, _++_, append-nil, append-assoc}
-use lib.ListN.{length, set, length-append}
+use lib.ListN.{length, set, take, length-append}
 use lib.Seq.{sets}
 use lib.Dec.{ltb, leb}
 use borrow.Author.Tests.{lt-ltb, le-ltb, ltb-true, ltb-false, leb-true, leb-false, le-leb, lt-leb}
 use native.Mathlib.Nat.{add-zero, add-suc, pow-succ', div-div-eq-div-mul}
 use native.Mathlib.Numerals.{add-one}
 use native.Mathlib.Omega.{arith}
-use Rattle.laws.specs.Writes.{sets-append}
+use Rattle.laws.specs.Writes.{sets-append, sets-back}
 use Rattle.laws.specs.Pick.{pick, pick-ap}
 use Rattle.wire.specs.declared.write.Put.{Put}
 use Rattle.wire.specs.Number.{widthOf}
-use Rattle.wire.specs.Write.{bytesOf, encoded, headOf, outcome, wrote}
+use Rattle.wire.specs.Write.{bytesOf, encoded, headOf, Outcome, outcome, wrote}
 
 -- n in k bytes is k bytes long
 pub length-bytesOf : (k n : ℕ) → length (bytesOf k n) ≡ k
@@ -139,3 +139,43 @@ pub wrote-full : {r : Bool} (b : List ℕ) (at m : ℕ) (vs : List ℕ) → leng
     → outcome Put.Full b ≡ wrote b at vs
 unfolding wrote pick
 wrote-full b at m vs e p t = rw (e, sym p ∙ t)
+
+-- what a writer's answer p and the buffer c that it leaves tell
+module _ (b : List ℕ) (at : ℕ) (vs c : List ℕ) {p : Put} (is : outcome p c ≡ wrote b at vs) where
+  -- where it answers a place the bytes fit, they stand in the buffer, and the place is the one behind them
+  pub answer-next : {r : ℕ} → p ≡ Put.Next r → (at + length vs ≤ length b) × (c ≡ sets b at vs) × (r ≡ at + length vs)
+  unfolding wrote pick
+  answer-next {r} n = go (leb (at + length vs) (length b)) refl is
+    where
+      go : (f : Bool) → leb (at + length vs) (length b) ≡ f
+          → outcome p c ≡ pick f (outcome (Put.Next (at + length vs)) (sets b at vs)) (outcome Put.Full b)
+          → (at + length vs ≤ length b) × (c ≡ sets b at vs) × (r ≡ at + length vs)
+      go true t e =
+          let m : p ≡ Put.Next (at + length vs) = ap (λ (o : Outcome). o .next) e in
+          (leb-true (at + length vs) (length b) t, ap (λ (o : Outcome). o .buffer) e, cc)
+      go false t e =
+          let m : p ≡ Put.Full = ap (λ (o : Outcome). o .next) e in
+          let z : _≡_ {A = ℕ} 0 1 = cc in
+          absurd (omega arith)
+
+  -- where it answers that it is full the bytes do not fit, and the buffer is as it was
+  pub answer-full : p ≡ Put.Full → (length b < at + length vs) × (c ≡ b)
+  unfolding wrote pick
+  answer-full n = go (leb (at + length vs) (length b)) refl is
+    where
+      go : (f : Bool) → leb (at + length vs) (length b) ≡ f
+          → outcome p c ≡ pick f (outcome (Put.Next (at + length vs)) (sets b at vs)) (outcome Put.Full b)
+          → (length b < at + length vs) × (c ≡ b)
+      go true t e =
+          let m : p ≡ Put.Next (at + length vs) = ap (λ (o : Outcome). o .next) e in
+          let z : _≡_ {A = ℕ} 0 1 = cc in
+          absurd (omega arith)
+      go false t e = (leb-false (at + length vs) (length b) t, ap (λ (o : Outcome). o .buffer) e)
+
+-- what was written at the start of a row that it fits into is read back
+pub put-back : (row vs after : List ℕ) (r : Put) → outcome r after ≡ wrote row 0 vs → length vs ≤ length row → take (length vs) after ≡ vs
+unfolding wrote pick
+put-back row vs after r e h =
+    let fits : leb (0 + length vs) (length row) ≡ true = le-leb (0 + length vs) (length row) (omega arith) in
+    let stored : after ≡ sets row 0 vs = ap (λ (o : Outcome). o .buffer) (rw fits at e) in
+    rw stored (sets-back vs row 0 (omega arith))

@@ -2,19 +2,18 @@
 -- Assumes nothing.
 use Prim.Native.Nat.{ℕ, zero, suc, _+_, _-_, _≤_, _<_}
 use mathlib.Core.Path.{_≡_, refl, sym, _∙_, ap}
-use mathlib.Core.Bool.{Bool, true, false}
 use mathlib.Core.List.{List, [], _∷_, _++_, append-nil}
 use lib.ListN.{length, set, length-set, length-append}
 use lib.Seq.{sets, length-sets, set-set, set-comm, set-out}
-use lib.Dec.{leb, ltb}
-use borrow.Author.Tests.{le-leb, lt-leb, leb-true, leb-false, ltb-true, ltb-false}
+use lib.Dec.{ltb}
+use borrow.Author.Tests.{le-leb, lt-leb, ltb-true, ltb-false}
 use native.Mathlib.Nat.{add-zero}
 use native.Mathlib.Omega.{arith}
 use Rattle.laws.specs.Pick.{pick, pick-ind}
 use Rattle.laws.specs.Writes.{sets-append}
 use Rattle.wire.specs.declared.write.Put.{Put}
-use Rattle.wire.specs.WriteLaws.{wrote-fits, wrote-full}
-use Rattle.wire.specs.Write.{headOf, written, Outcome, outcome, wrote}
+use Rattle.wire.specs.WriteLaws.{wrote-fits, wrote-full, answer-next, answer-full}
+use Rattle.wire.specs.Write.{headOf, written, outcome, wrote}
 
 -- b has room for vs from `at` on
 pub record Room (b : List ℕ) (at : ℕ) (vs : List ℕ) : Type 0 where
@@ -76,33 +75,11 @@ head-alone t = sym (append-nil (headOf t 0))
 module _ (b : List ℕ) (at : ℕ) (vs c : List ℕ) {p : Put} (is : outcome p c ≡ wrote b at vs) where
   -- where it answers a place it found room, and stored vs
   pub put-next : {r : ℕ} → p ≡ Put.Next r → Room b at vs × Stored b at vs c r
-  unfolding wrote pick
-  put-next {r} n = go (leb (at + length vs) (length b)) refl is
-    where
-      go : (f : Bool) → leb (at + length vs) (length b) ≡ f
-          → outcome p c ≡ pick f (outcome (Put.Next (at + length vs)) (sets b at vs)) (outcome Put.Full b)
-          → Room b at vs × Stored b at vs c r
-      go true t e =
-          let m : p ≡ Put.Next (at + length vs) = ap (λ (o : Outcome). o .next) e in
-          (record { fits = leb-true (at + length vs) (length b) t }, record { buffer = ap (λ (o : Outcome). o .buffer) e; next = cc })
-      go false t e =
-          let m : p ≡ Put.Full = ap (λ (o : Outcome). o .next) e in
-          let z : _≡_ {A = ℕ} 0 1 = cc in
-          absurd (omega arith)
+  put-next n = let a = answer-next b at vs c is n in (record { fits = a .0 }, record { buffer = a .1; next = a .2 })
 
   -- where it answers that it is full it found no room, and left b as it was
   pub put-full : p ≡ Put.Full → (length b < at + length vs) × (c ≡ b)
-  unfolding wrote pick
-  put-full n = go (leb (at + length vs) (length b)) refl is
-    where
-      go : (f : Bool) → leb (at + length vs) (length b) ≡ f
-          → outcome p c ≡ pick f (outcome (Put.Next (at + length vs)) (sets b at vs)) (outcome Put.Full b)
-          → (length b < at + length vs) × (c ≡ b)
-      go true t e =
-          let m : p ≡ Put.Next (at + length vs) = ap (λ (o : Outcome). o .next) e in
-          let z : _≡_ {A = ℕ} 0 1 = cc in
-          absurd (omega arith)
-      go false t e = (leb-false (at + length vs) (length b) t, ap (λ (o : Outcome). o .buffer) e)
+  put-full n = answer-full b at vs c is n
 
 module _ (b : List ℕ) (at : ℕ) (vs c : List ℕ) where
   -- where there is room, to store vs is to write it

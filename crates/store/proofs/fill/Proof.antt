@@ -1,7 +1,7 @@
 -- The row has room for the bytes, so they are written whole.
 use borrow.Author.Needs.{needs}
 use native.Mathlib.Omega.{arith}
-use Rattle.store.specs.Laws.{filled}
+use Rattle.wire.specs.WriteLaws.{put-back}
 use Rattle.store.proofs.fill.Statement.{statement}
 use Rattle.store.proofs.fill.Tie as tie
 
@@ -15,7 +15,7 @@ returns : tie.Need-returns
 returns c =
     let r = c .before in
     let a = r .before .before .before .before .args in
-    filled _ (a .row .now) _ (a .bytes .now) (omega arith) (c .put-bytes .ensures)
+    put-back (a .row .now) (a .bytes .now) _ _ (c .put-bytes .ensures) (omega arith)
 
 pub fill-spec : {M : Type 1} → statement M
 fill-spec = tie.close (tie.spec has-all-bytes-requires put-bytes-requires returns)

@@ -1,0 +1,45 @@
+-- A face is a hop where it is in the head's set; past the last route there is none.
+-- Assumes nothing.
+use borrow.Author.Needs.{needs}
+use native.Mathlib.Omega.{arith}
+use mathlib.Core.Path.{sym, _∙_}
+use mathlib.Core.Bool.{and-false}
+use Rattle.records.specs.Face.{isFace}
+use Rattle.records.specs.Route.{hopAt}
+use Rattle.records.specs.Slots.{given, isSome}
+use Rattle.routes.specs.View.{routeAt, view-place, view-none}
+use Rattle.routes.specs.HopLaws.{row-has}
+use Rattle.routes.proofs.has_hop.Statement.{statement}
+use Rattle.routes.proofs.has_hop.Tie as tie
+
+clamped-requires : tie.Need-clamped-requires
+clamped-requires c κs = search needs
+
+mul-has : tie.Need-mul-has
+mul-has c = search needs
+
+index-1-has : tie.Need-index-1-has
+index-1-has c = search needs
+
+index-2-has : tie.Need-index-2-has
+index-2-has c = search needs
+
+has-requires : tie.Need-has-requires
+has-requires c κs = search needs
+
+returns : tie.Need-returns
+unfolding hopAt given routeAt
+returns c =
+    let a = c .before .before .before .before .args in
+    c .has .ensures ∙ rw (view-place 16 (a .names .now) (a .heads .now) (a .costs .now) (a .count) (a .i) (omega arith)) (row-has 16 (a .face) _ _ _)
+
+returns-2 : tie.Need-returns-2
+unfolding hopAt given isSome
+returns-2 c =
+    let a = c .before .before .args in
+    rw (view-none 16 (a .names .now) (a .heads .now) (a .costs .now) (a .count) (a .i) (omega arith)) (sym (and-false (isFace 16 (a .face))))
+
+pub has-hop-spec : {M : Type 1} → statement M
+has-hop-spec =
+    tie.close
+    (tie.spec clamped-requires mul-has index-1-has index-2-has has-requires returns returns-2)

@@ -1,0 +1,49 @@
+-- The hops are the faces of the head's set; past the last route there are none.
+-- Assumes nothing.
+use borrow.Author.Needs.{needs}
+use native.Mathlib.Omega.{arith}
+use mathlib.Core.Path.{sym, _∙_}
+use Rattle.records.specs.Slots.{given}
+use Rattle.routes.specs.View.{routeAt, view-place, view-none}
+use Rattle.routes.specs.HopLaws.{row-hops}
+use Rattle.routes.proofs.hops_of.Statement.{statement}
+use Rattle.routes.proofs.hops_of.Tie as tie
+
+clamped-requires : tie.Need-clamped-requires
+clamped-requires c κs = search needs
+
+mul-members : tie.Need-mul-members
+mul-members c = search needs
+
+index-1-members : tie.Need-index-1-members
+index-1-members c = search needs
+
+index-2-members : tie.Need-index-2-members
+index-2-members c = search needs
+
+members-requires : tie.Need-members-requires
+members-requires c κs = search needs
+
+returns : tie.Need-returns
+unfolding given routeAt
+returns c =
+    let a = c .before .before .before .before .args in
+    rw (view-place 16 (a .names .now) (a .heads .now) (a .costs .now) (a .count) (a .i) (omega arith)) (c .members .ensures ∙ sym (row-hops 16 _ _ _))
+
+returns-2 : tie.Need-returns-2
+unfolding given
+returns-2 c =
+    let a = c .before .before .args in
+    rw (view-none 16 (a .names .now) (a .heads .now) (a .costs .now) (a .count) (a .i) (omega arith))
+
+pub hops-of-spec : {M : Type 1} → statement M
+hops-of-spec =
+    tie.close
+    (tie.spec
+    clamped-requires
+    mul-members
+    index-1-members
+    index-2-members
+    members-requires
+    returns
+    returns-2)

@@ -1,0 +1,124 @@
+-- One law for each outcome: a known prefix, one that is too long, no room, a new route at the end.
+-- Assumes nothing.
+use borrow.Author.Needs.{needs}
+use native.Mathlib.Omega.{arith}
+use mathlib.Core.Path.{refl, sym, _∙_}
+use Rattle.records.specs.Class.{classOf}
+use Rattle.records.specs.Route.{withClass}
+use Rattle.routes.specs.View.{routeAt, view-length, view-cut, view-snoc, view-head}
+use Rattle.routes.specs.SettingLaws.{set-known, set-new, set-long, set-full, row-class, row-new}
+use Rattle.routes.proofs.set.Statement.{statement}
+use Rattle.routes.proofs.set.Tie as tie
+
+clamped-requires : tie.Need-clamped-requires
+clamped-requires c κs = search needs
+
+find-requires : tie.Need-find-requires
+find-requires c κs = search needs
+
+has-all-heads-requires : tie.Need-has-all-heads-requires
+has-all-heads-requires c κs = search needs
+
+mul-head : tie.Need-mul-head
+mul-head c = search needs
+
+element-copy-out-head : tie.Need-element-copy-out-head
+element-copy-out-head c = search needs
+
+array-read-t21 : tie.Need-array-read-t21
+array-read-t21 c = search needs
+
+array-read-t24 : tie.Need-array-read-t24
+array-read-t24 c = search needs
+
+mul-t15 : tie.Need-mul-t15
+mul-t15 c = search needs
+
+element-set-from-heads : tie.Need-element-set-from-heads
+element-set-from-heads c = search needs
+
+returns : tie.Need-returns
+unfolding routeAt
+returns c =
+    let a = c .before .before .before .before .before .before .before .before .before .args in
+    let n = c .before .before .before .before .before .before .before .clamped in
+    let i = c .before .before .before .before .find in
+    let rows = c .before .before .has-all-heads .ensures in
+    let len = view-length 16 (a .names .now) (a .heads .now) (a .costs .now) (a .count) in
+    let cls = classOf (a .class) in
+    let changed = view-head 16 (a .names .now) (a .heads .now) (a .costs .now) (a .count) (i .result) _ (withClass cls) (omega arith) (row-class 16 (a .class) _ _ _) in
+    set-known 16 (a .prefix .now) cls _ _ _ refl (omega arith) (view-cut 16 _ _ _ _ _ (n .ensures) ∙ rw (← (i .ensures)) changed)
+
+returns-2 : tie.Need-returns-2
+returns-2 c =
+    let a = c .before .before .before .before .before .before .before .before .before .args in
+    let n = c .before .before .before .before .before .before .before .clamped in
+    let i = c .before .before .before .before .find in
+    let len = view-length 16 (a .names .now) (a .heads .now) (a .costs .now) (a .count) in
+    set-long 16 (a .prefix .now) (classOf (a .class)) _ _ _ (omega arith) (omega arith) refl (view-cut 16 _ _ _ _ _ (n .ensures))
+
+returns-3 : tie.Need-returns-3
+returns-3 c =
+    let a = c .before .before .before .before .before .before .before .before .before .before .args in
+    let n = c .before .before .before .before .before .before .before .before .clamped in
+    let i = c .before .before .before .before .before .find in
+    let len = view-length 16 (a .names .now) (a .heads .now) (a .costs .now) (a .count) in
+    set-full 16 (a .prefix .now) (classOf (a .class)) _ _ _ (omega arith) (omega arith) refl (view-cut 16 _ _ _ _ _ (n .ensures))
+
+has-all-names-requires : tie.Need-has-all-names-requires
+has-all-names-requires c κs = search needs
+
+mul-write-prefix : tie.Need-mul-write-prefix
+mul-write-prefix c = search needs
+
+index-1-write-prefix : tie.Need-index-1-write-prefix
+index-1-write-prefix c = search needs
+
+write-prefix-requires : tie.Need-write-prefix-requires
+write-prefix-requires c κs = search needs
+
+mul-t34 : tie.Need-mul-t34
+mul-t34 c = search needs
+
+element-set-from-heads-2 : tie.Need-element-set-from-heads-2
+element-set-from-heads-2 c = search needs
+
+add-t27 : tie.Need-add-t27
+add-t27 c = search needs
+
+returns-4 : tie.Need-returns-4
+returns-4 c =
+    let a = c .before .before .before .before .before .before .before .before .before .before .before .before .before .before .args in
+    let n = c .before .before .before .before .before .before .before .before .before .before .before .before .clamped in
+    let i = c .before .before .before .before .before .before .before .before .before .find in
+    let rows = c .before .before .before .before .before .before .before .has-all-heads .ensures in
+    let all = c .before .before .has-all-names .ensures in
+    let len = view-length 16 (a .names .now) (a .heads .now) (a .costs .now) (a .count) in
+    set-new 16 (a .prefix .now) (classOf (a .class)) _ _ _ (omega arith) refl (omega arith) (omega arith)
+    (view-snoc 16 (a .names .now) (a .heads .now) (a .costs .now) (a .count) _ _ _ (n .result) (sym (n .ensures)) (omega arith) (omega arith) (omega arith)
+    (row-new 16 (a .class) (a .prefix .now) _ _ (c .write-prefix .ensures)))
+
+pub set-spec : {M : Type 1} → statement M
+set-spec =
+    tie.close
+    (tie.spec
+    clamped-requires
+    find-requires
+    has-all-heads-requires
+    mul-head
+    element-copy-out-head
+    array-read-t21
+    array-read-t24
+    mul-t15
+    element-set-from-heads
+    returns
+    returns-2
+    returns-3
+    has-all-names-requires
+    mul-write-prefix
+    index-1-write-prefix
+    write-prefix-requires
+    mul-t34
+    element-set-from-heads-2
+    add-t27
+    returns-4)
