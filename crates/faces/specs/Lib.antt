@@ -4,3 +4,4 @@ pub mod Slots
 pub mod SlotLaws
 pub mod View
 pub mod ViewLaws
+pub mod HeldLaws

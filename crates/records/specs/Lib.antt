@@ -12,3 +12,4 @@ pub mod Ageing
 pub mod PlaceLaws
 pub mod ClassLaws
 pub mod UseLaws
+pub mod EachLaws

@@ -1,0 +1,4 @@
+pub mod Ages
+pub mod Pass
+pub mod PassLaws
+pub mod TurnLaws
