@@ -1,9 +1,8 @@
 -- An event's sends fit the output buffer (`sends-fit`, `packed-fits`): they are one packet, the copies of one Data, or a Nack of 290 bytes at
 -- most for each face at most (`step-batch`). What stands in the buffer is in `Filled`.
 -- Assumes nothing.
-use Prim.Native.Nat.{ℕ, suc, _+_, _*_, _≤_}
+use Prim.Native.Nat.{ℕ, _+_, _*_, _≤_}
 use mathlib.Core.Path.{_≡_, refl}
-use mathlib.Core.Bool.{Bool}
 use mathlib.Core.List.{List, [], _∷_, map}
 use mathlib.Core.Option.{Option, none, some}
 use lib.ListN.{length, length-map, length-set}
@@ -17,7 +16,8 @@ use Rattle.packets.specs.Meaning.{Ask}
 use Rattle.writing.specs.Written.{lowered}
 use Rattle.writing.specs.Size.{nack-size}
 use Rattle.records.specs.Class.{Class}
-use Rattle.records.specs.Slots.{Held, heldFrom, held, only}
+use Rattle.records.specs.Slots.{Held, held}
+use Rattle.records.specs.EachLaws.{only-length, held-length}
 use Rattle.records.specs.Face.{isPeer}
 use Rattle.records.specs.Entry.{Request, Entry, withSent, withNack}
 use Rattle.rules.specs.Node.{Node, What, Event}
@@ -128,20 +128,6 @@ refusal-batch faces a reason n f i h =
     pick-ind (Batch faces) _ _ _ (λ _. single _ (omega (arith, nack-size reason (i .name) (i .canBePrefix) (i .mustBeFresh) (i .nonce) h)))
     (λ _. empty)
 
--- there is no more held than slots
-held-most : {A : Type 0} (k : ℕ) (l : List (Option A)) → length (heldFrom k l) ≤ length l
-unfolding heldFrom
-held-most k [] = omega arith
-held-most k (none ∷ l) = omega (arith, held-most (suc k) l)
-held-most k (some a ∷ l) = omega (arith, held-most (suc k) l)
-
--- nor more that a test holds of
-only-most : {A : Type 0} (p : A → Bool) (l : List A) → length (only p l) ≤ length l
-unfolding only
-only-most p [] = omega arith
-only-most {A} p (a ∷ l) =
-    let r = only-most p l in pick-ind (λ (m : List A). length m ≤ suc (length l)) (p a) _ _ (λ _. omega arith) (λ _. omega arith)
-
 -- the Nacks that end requests
 nacks-batch : (faces now : ℕ) (n : Node) (i f r : ℕ) (x : Entry) → length (x .name) ≤ 255 → length (x .requests) ≡ faces
     → Batch faces (endsByNack now n i (withNack f r x) .sends)
@@ -151,9 +137,9 @@ nacks-batch faces now n i f r x h q =
     (omega (
       arith,
       length-map (peersOf n y) (nackOf y),
-      only-most (λ (k : Held Request). isPeer (n .faces) (k .face))
+      only-length (λ (k : Held Request). isPeer (n .faces) (k .face))
           (held (x .requests)),
-      held-most 1 (x .requests),
+      held-length 1 (x .requests),
     ))
     (all-map (nackOf y) (all-any (λ k. (refl, nack-size _ (x .name) (x .canBePrefix) (x .mustBeFresh) (k .what .nonce) h)) (peersOf n y)))
   where

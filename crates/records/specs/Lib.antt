@@ -6,6 +6,7 @@ pub mod Route
 pub mod LeastLaws
 pub mod Entry
 pub mod Stored
+pub mod LookupLaws
 pub mod Line
 pub mod Happening
 pub mod Ageing
