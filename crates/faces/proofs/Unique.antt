@@ -4,6 +4,7 @@ use mathlib.Core.Path.{_≡_, sym, _∙_}
 use contract.Lifetimes.{Lfts}
 use denote.Triple.Clauses.{AtExit}
 use borrow.Fn.Kinds.{Dens, endedOf, resT}
+use Rattle.faces.specs.Set.{mostFaces}
 use Rattle.faces.specs.View.{view}
 use Rattle.faces.proofs.has.Kinds as has-kinds
 use Rattle.faces.proofs.has.Reads as has-reads
@@ -105,15 +106,15 @@ is-ad-hoc-one κs a x y s t p q = p ∙ sym q
 
 -- no face open
 pub none-one : (κs : Lfts 0) (a : Dens κs none-kinds.ps) (x y : resT none-kinds.r κs .Denot) (s t : AtExit (endedOf 0 none-kinds.ps none-kinds.r) κs)
-    → none-reads.Post κs a x s → none-reads.Post κs a y t → view 16 x ≡ view 16 y
+    → none-reads.Post κs a x s → none-reads.Post κs a y t → view mostFaces x ≡ view mostFaces y
 none-one κs a x y s t p q = p ∙ sym q
 
 -- the faces with one opened
 pub with-open-one : (κs : Lfts 0) (a : Dens κs with-open-kinds.ps) (x y : resT with-open-kinds.r κs .Denot) (s t : AtExit (endedOf 0 with-open-kinds.ps with-open-kinds.r) κs)
-    → with-open-reads.Post κs a x s → with-open-reads.Post κs a y t → view 16 x ≡ view 16 y
+    → with-open-reads.Post κs a x s → with-open-reads.Post κs a y t → view mostFaces x ≡ view mostFaces y
 with-open-one κs a x y s t p q = p ∙ sym q
 
 -- the faces with one closed
 pub with-closed-one : (κs : Lfts 0) (a : Dens κs with-closed-kinds.ps) (x y : resT with-closed-kinds.r κs .Denot) (s t : AtExit (endedOf 0 with-closed-kinds.ps with-closed-kinds.r) κs)
-    → with-closed-reads.Post κs a x s → with-closed-reads.Post κs a y t → view 16 x ≡ view 16 y
+    → with-closed-reads.Post κs a x s → with-closed-reads.Post κs a y t → view mostFaces x ≡ view mostFaces y
 with-closed-one κs a x y s t p q = p ∙ sym q

@@ -1,5 +1,6 @@
 -- The faces of the set.
 use mathlib.Core.Path.{_∙_}
+use Rattle.faces.specs.Set.{mostFaces}
 use Rattle.entries.specs.ChangeLaws.{view-asking-faces}
 use borrow.Author.Needs.{needs}
 use Rattle.entries.proofs.asking_faces.Statement.{statement}
@@ -12,7 +13,7 @@ members-requires : tie.Need-members-requires
 members-requires c κs = search needs
 
 returns : tie.Need-returns
-returns c = λ nm. c .members .ensures ∙ view-asking-faces 16 nm _ _
+returns c = λ nm. c .members .ensures ∙ view-asking-faces mostFaces nm _ _
 
 pub asking-faces-spec : {M : Type 1} → statement M
 asking-faces-spec = tie.close (tie.spec element-copy-out-members members-requires returns)

@@ -1,4 +1,5 @@
 -- Empty sets have no records, whatever the memory holds.
+use Rattle.faces.specs.Set.{mostFaces}
 use Rattle.entries.specs.ChangeLaws.{view-bare}
 use borrow.Author.Needs.{needs}
 use Rattle.entries.proofs.bare.Statement.{statement}
@@ -11,7 +12,7 @@ word-requires-2 : tie.Need-word-requires-2
 word-requires-2 c κs = search needs
 
 returns : tie.Need-returns
-returns c = λ nm recs. rw (← (c .before .word .ensures), ← (c .word2 .ensures)) (view-bare 16 _ _ _ _ nm recs)
+returns c = λ nm recs. rw (← (c .before .word .ensures), ← (c .word2 .ensures)) (view-bare mostFaces _ _ _ _ nm recs)
 
 pub bare-spec : {M : Type 1} → statement M
 bare-spec = tie.close (tie.spec word-requires word-requires-2 returns)

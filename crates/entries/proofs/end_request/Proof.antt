@@ -1,4 +1,5 @@
 -- The face is taken out of the set; a number that is none changes nothing.
+use Rattle.faces.specs.Set.{mostFaces}
 use Rattle.entries.specs.ChangeLaws.{view-not-asking}
 use borrow.Author.Needs.{needs}
 use Rattle.entries.proofs.end_request.Statement.{statement}
@@ -26,7 +27,7 @@ array-read-t24 : tie.Need-array-read-t24
 array-read-t24 c = search needs
 
 returns : tie.Need-returns
-returns c = λ nm. rw (c .before .remove .ensures) (view-not-asking 16 nm _ _ _)
+returns c = λ nm. rw (c .before .remove .ensures) (view-not-asking mostFaces nm _ _ _)
 
 pub end-request-spec : {M : Type 1} → statement M
 end-request-spec =

@@ -1,4 +1,5 @@
 -- The face is taken out of the set; a number that is none changes nothing.
+use Rattle.faces.specs.Set.{mostFaces}
 use Rattle.entries.specs.ChangeLaws.{view-not-sent}
 use borrow.Author.Needs.{needs}
 use Rattle.entries.proofs.end_sent.Statement.{statement}
@@ -26,7 +27,7 @@ remove-requires : tie.Need-remove-requires
 remove-requires c κs = search needs
 
 returns : tie.Need-returns
-returns c = λ nm. rw (c .before .remove .ensures) (view-not-sent 16 nm _ _ _)
+returns c = λ nm. rw (c .before .remove .ensures) (view-not-sent mostFaces nm _ _ _)
 
 pub end-sent-spec : {M : Type 1} → statement M
 end-sent-spec =

@@ -2,13 +2,14 @@
 use borrow.Author.Tests.{le-leb}
 use native.Mathlib.Omega.{arith}
 use mathlib.Core.Path.{sym}
+use Rattle.faces.specs.Set.{mostFaces}
 use Rattle.records.specs.FaceLaws.{face-no}
 use Rattle.records.specs.Face.{isFace}
 use Rattle.entries.proofs.is_face.Statement.{statement}
 use Rattle.entries.proofs.is_face.Tie as tie
 
 returns : tie.Need-returns
-returns c = sym (face-no 16 (c .before .args .face) .1 (λ h. omega arith))
+returns c = sym (face-no mostFaces (c .before .args .face) .1 (λ h. omega arith))
 
 returns-2 : tie.Need-returns-2
 unfolding isFace

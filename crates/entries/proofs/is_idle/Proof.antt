@@ -1,4 +1,5 @@
 -- There are no requests exactly where their set has no face.
+use Rattle.faces.specs.Set.{mostFaces}
 use Rattle.entries.specs.ChangeLaws.{view-idle}
 use borrow.Author.Needs.{needs}
 use Rattle.entries.proofs.is_idle.Statement.{statement}
@@ -11,7 +12,7 @@ size-requires : tie.Need-size-requires
 size-requires c κs = search needs
 
 returns : tie.Need-returns
-returns c = λ nm. rw (c .size .ensures) (view-idle 16 nm _ _)
+returns c = λ nm. rw (c .size .ensures) (view-idle mostFaces nm _ _)
 
 pub is-idle-spec : {M : Type 1} → statement M
 is-idle-spec = tie.close (tie.spec element-copy-out-size size-requires returns)

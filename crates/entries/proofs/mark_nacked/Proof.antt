@@ -1,6 +1,7 @@
 -- A face with an out-record has its Nack word set; no other number has one to mark.
 use native.Mathlib.Omega.{arith}
 use mathlib.Core.Path.{sym, _∙_}
+use Rattle.faces.specs.Set.{mostFaces}
 use Rattle.entries.specs.ChangeLaws.{view-nacking, view-nacking-none}
 use Rattle.faces.specs.SetLaws.{has-face}
 use Rattle.laws.specs.Rows.{at}
@@ -73,10 +74,10 @@ unfolding at
 returns c =
     let t = c .before .before .before .before in
     let e = sym (t .before .has .ensures) ∙ t .if1 .taken in
-    λ nm. rw (c .nack-word .ensures) (view-nacking 16 nm _ _ _ _ (omega (arith, c .before .before .has-all-records .ensures)) e)
+    λ nm. rw (c .nack-word .ensures) (view-nacking mostFaces nm _ _ _ _ (omega (arith, c .before .before .has-all-records .ensures)) e)
 
 returns-2 : tie.Need-returns-2
-returns-2 c = λ nm. view-nacking-none 16 nm _ _ _ _ (sym (c .before .has .ensures) ∙ c .if1 .left)
+returns-2 c = λ nm. view-nacking-none mostFaces nm _ _ _ _ (sym (c .before .has .ensures) ∙ c .if1 .left)
 
 pub mark-nacked-spec : {M : Type 1} → statement M
 mark-nacked-spec =

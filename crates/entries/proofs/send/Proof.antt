@@ -1,6 +1,7 @@
 -- A number that is no face changes nothing; for a face the set and the record are set.
 use native.Mathlib.Omega.{arith}
 use mathlib.Core.Path.{sym, _∙_}
+use Rattle.faces.specs.Set.{mostFaces}
 use Rattle.entries.specs.ChangeLaws.{view-sending}
 use Rattle.entries.specs.Operations.{sending}
 use Rattle.records.specs.FaceLaws.{face-yes}
@@ -19,19 +20,19 @@ has-all-records-requires c κs = search needs
 sub-r : tie.Need-sub-r
 sub-r c =
     let t = c .before .before .before in
-    let h = face-yes 16 _ .0 (sym (t .before .is-face .ensures) ∙ t .if1 .taken) in
+    let h = face-yes mostFaces _ .0 (sym (t .before .is-face .ensures) ∙ t .if1 .taken) in
     omega arith
 
 mul-r : tie.Need-mul-r
 mul-r c =
     let t = c .before .before .before in
-    let h = face-yes 16 _ .0 (sym (t .before .is-face .ensures) ∙ t .if1 .taken) in
+    let h = face-yes mostFaces _ .0 (sym (t .before .is-face .ensures) ∙ t .if1 .taken) in
     omega arith
 
 element-copy-out-r : tie.Need-element-copy-out-r
 element-copy-out-r c =
     let t = c .before .before .before in
-    let h = face-yes 16 _ .0 (sym (t .before .is-face .ensures) ∙ t .if1 .taken) in
+    let h = face-yes mostFaces _ .0 (sym (t .before .is-face .ensures) ∙ t .if1 .taken) in
     omega arith
 
 array-read-t19 : tie.Need-array-read-t19
@@ -64,19 +65,19 @@ array-read-t35 c = search needs
 sub-t12 : tie.Need-sub-t12
 sub-t12 c =
     let t = c .before .before .before .before .before .before in
-    let h = face-yes 16 _ .0 (sym (t .before .is-face .ensures) ∙ t .if1 .taken) in
+    let h = face-yes mostFaces _ .0 (sym (t .before .is-face .ensures) ∙ t .if1 .taken) in
     omega arith
 
 mul-t13 : tie.Need-mul-t13
 mul-t13 c =
     let t = c .before .before .before .before .before .before in
-    let h = face-yes 16 _ .0 (sym (t .before .is-face .ensures) ∙ t .if1 .taken) in
+    let h = face-yes mostFaces _ .0 (sym (t .before .is-face .ensures) ∙ t .if1 .taken) in
     omega arith
 
 element-set-from-recs : tie.Need-element-set-from-recs
 element-set-from-recs c =
     let t = c .before .before .before .before .before .before in
-    let h = face-yes 16 _ .0 (sym (t .before .is-face .ensures) ∙ t .if1 .taken) in
+    let h = face-yes mostFaces _ .0 (sym (t .before .is-face .ensures) ∙ t .if1 .taken) in
     omega arith
 
 returns : tie.Need-returns
@@ -84,7 +85,7 @@ unfolding at
 returns c =
     let t = c .before .before .before .before .before .before in
     let q = sym (t .before .is-face .ensures) ∙ t .if1 .taken in
-    λ nm. rw (c .before .add .ensures) (view-sending 16 nm _ _ _ q (omega (arith, c .before .before .before .before .has-all-records .ensures)) _ _)
+    λ nm. rw (c .before .add .ensures) (view-sending mostFaces nm _ _ _ q (omega (arith, c .before .before .before .before .has-all-records .ensures)) _ _)
 
 returns-2 : tie.Need-returns-2
 unfolding sending

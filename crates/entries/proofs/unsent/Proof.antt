@@ -1,5 +1,6 @@
 -- The faces that are in the one set and not in the other.
 use mathlib.Core.Path.{_∙_}
+use Rattle.faces.specs.Set.{mostFaces}
 use Rattle.entries.specs.ChangeLaws.{view-unsent}
 use borrow.Author.Needs.{needs}
 use Rattle.entries.proofs.unsent.Statement.{statement}
@@ -12,7 +13,7 @@ less-requires : tie.Need-less-requires
 less-requires c κs = search needs
 
 returns : tie.Need-returns
-returns c = λ nm. c .less .ensures ∙ view-unsent 16 nm _ _ _
+returns c = λ nm. c .less .ensures ∙ view-unsent mostFaces nm _ _ _
 
 pub unsent-spec : {M : Type 1} → statement M
 unsent-spec = tie.close (tie.spec element-copy-out-less less-requires returns)

@@ -3,7 +3,7 @@ use borrow.Author.Needs.{needs}
 use native.Mathlib.Omega.{arith}
 use Prim.Native.Nat.{_-_}
 use Rattle.records.specs.FaceLaws.{face-yes, face-no}
-use Rattle.faces.specs.Set.{withFace}
+use Rattle.faces.specs.Set.{withFace, mostFaces}
 use Rattle.laws.specs.Digits.{or-added}
 use Rattle.laws.specs.Pick.{pick}
 use Rattle.faces.proofs.add.Statement.{statement}
@@ -11,11 +11,11 @@ use Rattle.faces.proofs.add.Tie as tie
 
 returns : tie.Need-returns
 unfolding withFace pick
-returns c = rw (face-no 16 (c .before .args .face) .1 (λ h. omega arith))
+returns c = rw (face-no mostFaces (c .before .args .face) .1 (λ h. omega arith))
 
 returns-2 : tie.Need-returns-2
 unfolding withFace pick
-returns-2 c = rw (face-no 16 (c .before .before .args .face) .1 (λ h. omega arith))
+returns-2 c = rw (face-no mostFaces (c .before .before .args .face) .1 (λ h. omega arith))
 
 sub-result : tie.Need-sub-result
 sub-result c = search needs
@@ -32,7 +32,7 @@ shl-result c = search needs
 returns-3 : tie.Need-returns-3
 unfolding withFace pick
 returns-3 c =
-    rw (face-yes 16 (c .before .before .args .face) .1 (omega arith, omega arith))
+    rw (face-yes mostFaces (c .before .before .args .face) .1 (omega arith, omega arith))
     (or-added 64 (c .before .before .args .face - 1) (c .before .before .args .set) (omega arith))
 
 pub add-spec : {M : Type 1} → statement M

@@ -3,18 +3,18 @@ use borrow.Author.Needs.{needs}
 use native.Mathlib.Omega.{arith}
 use Prim.Native.Nat.{_-_}
 use Rattle.records.specs.FaceLaws.{face-yes, face-no}
-use Rattle.faces.specs.Set.{hasFace}
+use Rattle.faces.specs.Set.{hasFace, mostFaces}
 use Rattle.laws.specs.Digits.{member, digit-shift}
 use Rattle.faces.proofs.has.Statement.{statement}
 use Rattle.faces.proofs.has.Tie as tie
 
 returns : tie.Need-returns
 unfolding hasFace
-returns c = rw (face-no 16 (c .before .args .face) .1 (λ h. omega arith))
+returns c = rw (face-no mostFaces (c .before .args .face) .1 (λ h. omega arith))
 
 returns-2 : tie.Need-returns-2
 unfolding hasFace
-returns-2 c = rw (face-no 16 (c .before .before .args .face) .1 (λ h. omega arith))
+returns-2 c = rw (face-no mostFaces (c .before .before .args .face) .1 (λ h. omega arith))
 
 sub-result : tie.Need-sub-result
 sub-result c = search needs
@@ -31,7 +31,7 @@ shr-result c = search needs
 returns-3 : tie.Need-returns-3
 unfolding hasFace member
 returns-3 c =
-    rw (face-yes 16 (c .before .before .args .face) .1 (omega arith, omega arith), ← (digit-shift (c .before .before .args .face - 1) _))
+    rw (face-yes mostFaces (c .before .before .args .face) .1 (omega arith, omega arith), ← (digit-shift (c .before .before .args .face - 1) _))
 
 pub has-spec : {M : Type 1} → statement M
 has-spec =

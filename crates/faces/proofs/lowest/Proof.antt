@@ -2,7 +2,7 @@
 use borrow.Author.Needs.{needs}
 use native.Mathlib.Omega.{arith}
 use Prim.Native.Nat.{_+_, _%_, _^_}
-use Rattle.faces.specs.Set.{lowestOf}
+use Rattle.faces.specs.Set.{lowestOf, mostFaces}
 use lib.Count.{trailing-le}
 use Rattle.faces.proofs.lowest.Statement.{statement}
 use Rattle.faces.proofs.lowest.Tie as tie
@@ -23,10 +23,10 @@ add-result : tie.Need-add-result
 add-result c = search needs
 
 cast-result : tie.Need-cast-result
-cast-result c = omega (arith, trailing-le 64 (c .args .set % 2 ^ 16 + 2 ^ 16))
+cast-result c = omega (arith, trailing-le 64 (c .args .set % 2 ^ mostFaces + 2 ^ mostFaces))
 
 add-result-2 : tie.Need-add-result-2
-add-result-2 c = omega (arith, trailing-le 64 (c .args .set % 2 ^ 16 + 2 ^ 16))
+add-result-2 c = omega (arith, trailing-le 64 (c .args .set % 2 ^ mostFaces + 2 ^ mostFaces))
 
 returns : tie.Need-returns
 unfolding lowestOf

@@ -1,6 +1,7 @@
 -- The remainder has the digits of the faces and no others.
 use borrow.Author.Needs.{needs}
 use mathlib.Core.Path.{sym}
+use Rattle.faces.specs.Set.{mostFaces}
 use Rattle.faces.specs.SetLaws.{where-mod}
 use Rattle.faces.proofs.members.Statement.{statement}
 use Rattle.faces.proofs.members.Tie as tie
@@ -18,7 +19,7 @@ rem-result : tie.Need-rem-result
 rem-result c = search needs
 
 returns : tie.Need-returns
-returns c = sym (where-mod 16 (c .args .set))
+returns c = sym (where-mod mostFaces (c .args .set))
 
 pub members-spec : {M : Type 1} → statement M
 members-spec = tie.close (tie.spec cast-result cast-result-2 shl-result rem-result returns)

@@ -2,7 +2,7 @@
 use borrow.Author.Needs.{needs}
 use native.Mathlib.Omega.{arith}
 use Prim.Native.Nat.{_^_, _%_}
-use Rattle.faces.specs.Set.{sizeOf}
+use Rattle.faces.specs.Set.{sizeOf, mostFaces}
 use lib.Count.{ones-le}
 use Rattle.faces.proofs.size.Statement.{statement}
 use Rattle.faces.proofs.size.Tie as tie
@@ -20,7 +20,7 @@ rem-result : tie.Need-rem-result
 rem-result c = search needs
 
 cast-result-3 : tie.Need-cast-result-3
-cast-result-3 c = omega (arith, ones-le 16 (c .args .set % 2 ^ 16) (omega arith))
+cast-result-3 c = omega (arith, ones-le mostFaces (c .args .set % 2 ^ mostFaces) (omega arith))
 
 returns : tie.Need-returns
 unfolding sizeOf

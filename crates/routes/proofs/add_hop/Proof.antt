@@ -4,6 +4,7 @@ use borrow.Author.Needs.{needs}
 use native.Mathlib.Omega.{arith}
 use mathlib.Core.Path.{sym, _∙_}
 use mathlib.Core.Option.{some}
+use Rattle.faces.specs.Set.{mostFaces}
 use Rattle.records.specs.FaceLaws.{face-yes, face-no}
 use Rattle.records.specs.Route.{withHop}
 use Rattle.routes.specs.View.{routeAt, view-length, view-on}
@@ -14,12 +15,12 @@ use Rattle.routes.proofs.add_hop.Tie as tie
 returns : tie.Need-returns
 returns c =
     let a = c .before .args in
-    sym (hop-none _ _ _ _ _ (face-no 16 (a .face) .1 (λ h. omega arith)))
+    sym (hop-none _ _ _ _ _ (face-no mostFaces (a .face) .1 (λ h. omega arith)))
 
 returns-2 : tie.Need-returns-2
 returns-2 c =
     let a = c .before .before .args in
-    sym (hop-none _ _ _ _ _ (face-no 16 (a .face) .1 (λ h. omega arith)))
+    sym (hop-none _ _ _ _ _ (face-no mostFaces (a .face) .1 (λ h. omega arith)))
 
 clamped-requires : tie.Need-clamped-requires
 clamped-requires c κs = search needs
@@ -51,14 +52,14 @@ returns-3 c =
     let a = c .before .before .before .before .before .before .before .before .before .before .before .args in
     let rows = c .before .before .before .before .before .has-all-heads .ensures in
     let all = c .before .before .before .has-all-costs .ensures in
-    view-on 16 (a .names .now) (a .heads .now) (a .costs .now) (a .count) (a .i) _ _ (withHop (a .face) (some (a .cost))) (omega arith) (omega arith)
+    view-on mostFaces (a .names .now) (a .heads .now) (a .costs .now) (a .count) (a .i) _ _ (withHop (a .face) (some (a .cost))) (omega arith) (omega arith)
     (c .put-hop .ensures _)
-    ∙ sym (hop-here _ _ _ _ _ (face-yes 16 (a .face) .1 (omega arith, omega arith)))
+    ∙ sym (hop-here _ _ _ _ _ (face-yes mostFaces (a .face) .1 (omega arith, omega arith)))
 
 returns-4 : tie.Need-returns-4
 returns-4 c =
     let a = c .before .before .before .before .args in
-    sym (hop-out _ _ _ _ _ (omega (arith, view-length 16 (a .names .now) (a .heads .now) (a .costs .now) (a .count))))
+    sym (hop-out _ _ _ _ _ (omega (arith, view-length mostFaces (a .names .now) (a .heads .now) (a .costs .now) (a .count))))
 
 pub add-hop-spec : {M : Type 1} → statement M
 add-hop-spec =

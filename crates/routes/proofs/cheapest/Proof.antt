@@ -2,6 +2,7 @@
 -- Assumes nothing.
 use borrow.Author.Needs.{needs}
 use native.Mathlib.Omega.{arith}
+use Rattle.faces.specs.Set.{mostFaces}
 use Rattle.records.specs.Slots.{given}
 use Rattle.routes.specs.View.{routeAt, view-place, view-none}
 use Rattle.routes.specs.HopLaws.{row-cheapest}
@@ -36,14 +37,14 @@ returns : tie.Need-returns
 unfolding given routeAt
 returns c =
     let a = c .before .before .before .before .before .before .args in
-    let here = view-place 16 (a .names .now) (a .heads .now) (a .costs .now) (a .count) (a .i) (omega arith) in
-    rw (here, row-cheapest 16 (a .set), ← (c .before .before .common .ensures)) (c .least .ensures)
+    let here = view-place mostFaces (a .names .now) (a .heads .now) (a .costs .now) (a .count) (a .i) (omega arith) in
+    rw (here, row-cheapest mostFaces (a .set), ← (c .before .before .common .ensures)) (c .least .ensures)
 
 returns-2 : tie.Need-returns-2
 unfolding given
 returns-2 c =
     let a = c .before .before .args in
-    rw (view-none 16 (a .names .now) (a .heads .now) (a .costs .now) (a .count) (a .i) (omega arith))
+    rw (view-none mostFaces (a .names .now) (a .heads .now) (a .costs .now) (a .count) (a .i) (omega arith))
 
 pub cheapest-spec : {M : Type 1} → statement M
 cheapest-spec =

@@ -2,6 +2,7 @@
 -- Assumes nothing.
 use borrow.Author.Needs.{needs}
 use native.Mathlib.Omega.{arith}
+use Rattle.faces.specs.Set.{mostFaces}
 use Rattle.records.specs.Slots.{given}
 use Rattle.routes.specs.View.{routeAt, view-place, view-none}
 use Rattle.routes.specs.SettingLaws.{row-word}
@@ -24,13 +25,13 @@ returns : tie.Need-returns
 unfolding routeAt given
 returns c =
     let a = c .before .before .before .args in
-    rw (view-place 16 (a .names .now) (a .heads .now) (a .costs .now) (a .count) (a .i) (omega arith), row-word)
+    rw (view-place mostFaces (a .names .now) (a .heads .now) (a .costs .now) (a .count) (a .i) (omega arith), row-word)
 
 returns-2 : tie.Need-returns-2
 unfolding given
 returns-2 c =
     let a = c .before .before .args in
-    rw (view-none 16 (a .names .now) (a .heads .now) (a .costs .now) (a .count) (a .i) (omega arith))
+    rw (view-none mostFaces (a .names .now) (a .heads .now) (a .costs .now) (a .count) (a .i) (omega arith))
 
 pub class-of-spec : {M : Type 1} → statement M
 class-of-spec =

@@ -5,6 +5,7 @@ use native.Mathlib.Omega.{arith}
 use mathlib.Core.Path.{_≡_, sym, _∙_}
 use Prim.Native.Nat.{_-_}
 use mathlib.Core.Option.{none}
+use Rattle.faces.specs.Set.{mostFaces}
 use Rattle.laws.specs.Loop.{from-zero, turns, turns-turn, turns-end}
 use Rattle.routes.specs.View.{view, view-length}
 use Rattle.routes.specs.Operations.{withHopOf, withoutFaceHops}
@@ -14,8 +15,8 @@ use Rattle.routes.proofs.drop_face.Tie as tie
 
 abbrev Inv-loop : tie.InvT-loop
 Inv-loop names heads₀ costs count face n i₀ heads i =
-    withoutFaceHops 16 face (view 16 names heads₀ costs count)
-    ≡ turns (withHopOf 16 face none) i (n - i) (view 16 names heads costs count)
+    withoutFaceHops mostFaces face (view mostFaces names heads₀ costs count)
+    ≡ turns (withHopOf mostFaces face none) i (n - i) (view mostFaces names heads costs count)
 
 abbrev μ-loop : tie.MeasureT-loop
 μ-loop names heads₀ costs count face n i₀ heads i = n - i
@@ -26,8 +27,8 @@ clamped-requires c κs = search needs
 loop-holds : tie.Need-loop-holds Inv-loop μ-loop
 loop-holds c =
     let a = c .before .args in
-    let all = hops-all 16 (a .face) (view 16 (a .names .now) (a .heads .now) (a .costs .now) (a .count)) in
-    let len = view-length 16 (a .names .now) (a .heads .now) (a .costs .now) (a .count) ∙ sym (c .clamped .ensures) in
+    let all = hops-all mostFaces (a .face) (view mostFaces (a .names .now) (a .heads .now) (a .costs .now) (a .count)) in
+    let len = view-length mostFaces (a .names .now) (a .heads .now) (a .costs .now) (a .count) ∙ sym (c .clamped .ensures) in
     rw from-zero (sym (rw len at all))
 
 drop-hop-requires : tie.Need-drop-hop-requires Inv-loop μ-loop

@@ -6,6 +6,7 @@ use mathlib.Core.Path.{sym, _∙_}
 use mathlib.Core.List.{[]}
 use mathlib.Core.Option.{none}
 use lib.ListN.{getD}
+use Rattle.faces.specs.Set.{mostFaces}
 use Rattle.laws.specs.Pick.{pick}
 use Rattle.records.specs.Face.{isFace}
 use Rattle.records.specs.Route.{withHop}
@@ -49,15 +50,15 @@ unfolding routeAt
 returns c =
     let a = c .before .before .before .before .before .before .args in
     let rows = c .before .before .has-all-heads .ensures in
-    let row = row-take 16 (a .face) (getD (a .names .now) (a .i) []) (getD (a .heads .now) (a .i) []) (getD (a .costs .now) (a .i) []) in
-    view-head 16 (a .names .now) (a .heads .now) (a .costs .now) (a .count) (a .i) _ (λ r. pick (isFace 16 (a .face)) (withHop (a .face) none r) r)
+    let row = row-take mostFaces (a .face) (getD (a .names .now) (a .i) []) (getD (a .heads .now) (a .i) []) (getD (a .costs .now) (a .i) []) in
+    view-head mostFaces (a .names .now) (a .heads .now) (a .costs .now) (a .count) (a .i) _ (λ r. pick (isFace mostFaces (a .face)) (withHop (a .face) none r) r)
     (omega arith) (rw (c .remove .ensures) row)
     ∙ sym (hop-if _ _ _ _ _)
 
 returns-2 : tie.Need-returns-2
 returns-2 c =
     let a = c .before .before .args in
-    sym (hop-out _ _ _ _ _ (omega (arith, view-length 16 (a .names .now) (a .heads .now) (a .costs .now) (a .count))))
+    sym (hop-out _ _ _ _ _ (omega (arith, view-length mostFaces (a .names .now) (a .heads .now) (a .costs .now) (a .count))))
 
 pub drop-hop-spec : {M : Type 1} → statement M
 drop-hop-spec =

@@ -4,6 +4,7 @@ use borrow.Author.Needs.{needs}
 use native.Mathlib.Omega.{arith}
 use mathlib.Core.Path.{_≡_, sym, _∙_}
 use Prim.Native.Nat.{_-_}
+use Rattle.faces.specs.Set.{mostFaces}
 use Rattle.laws.specs.Loop.{first, first-hit, first-miss, first-end, from-zero}
 use Rattle.names.specs.Name.{sameBytes}
 use Rattle.records.specs.Route.{routeOf}
@@ -13,7 +14,7 @@ use Rattle.routes.proofs.find.Tie as tie
 
 abbrev Inv-loop : tie.InvT-loop
 Inv-loop names heads costs count prefix n i₀ i =
-    routeOf prefix (view 16 names heads costs count) ≡ first (λ k. sameBytes prefix (routeAt 16 names heads costs k .name)) i (n - i)
+    routeOf prefix (view mostFaces names heads costs count) ≡ first (λ k. sameBytes prefix (routeAt mostFaces names heads costs k .name)) i (n - i)
 
 abbrev μ-loop : tie.MeasureT-loop
 μ-loop names heads costs count prefix n i₀ i = n - i
@@ -26,7 +27,7 @@ unfolding routeOf
 loop-holds c =
     let a = c .before .before .args in
     rw (from-zero, c .clamped .ensures)
-    (view-find 16 (a .names .now) (a .heads .now) (a .costs .now) (a .count) (λ r. sameBytes (a .prefix .now) (r .name)))
+    (view-find mostFaces (a .names .now) (a .heads .now) (a .costs .now) (a .count) (λ r. sameBytes (a .prefix .now) (r .name)))
 
 mul-part : tie.Need-mul-part Inv-loop μ-loop
 mul-part c = search needs

@@ -4,6 +4,7 @@ use borrow.Author.Needs.{needs}
 use native.Mathlib.Omega.{arith}
 use mathlib.Core.Path.{sym, _∙_}
 use mathlib.Core.Bool.{and-false}
+use Rattle.faces.specs.Set.{mostFaces}
 use Rattle.records.specs.Face.{isFace}
 use Rattle.records.specs.Route.{hopAt}
 use Rattle.records.specs.Slots.{given, isSome}
@@ -31,13 +32,13 @@ returns : tie.Need-returns
 unfolding hopAt given routeAt
 returns c =
     let a = c .before .before .before .before .args in
-    c .has .ensures ∙ rw (view-place 16 (a .names .now) (a .heads .now) (a .costs .now) (a .count) (a .i) (omega arith)) (row-has 16 (a .face) _ _ _)
+    c .has .ensures ∙ rw (view-place mostFaces (a .names .now) (a .heads .now) (a .costs .now) (a .count) (a .i) (omega arith)) (row-has mostFaces (a .face) _ _ _)
 
 returns-2 : tie.Need-returns-2
 unfolding hopAt given isSome
 returns-2 c =
     let a = c .before .before .args in
-    rw (view-none 16 (a .names .now) (a .heads .now) (a .costs .now) (a .count) (a .i) (omega arith)) (sym (and-false (isFace 16 (a .face))))
+    rw (view-none mostFaces (a .names .now) (a .heads .now) (a .costs .now) (a .count) (a .i) (omega arith)) (sym (and-false (isFace mostFaces (a .face))))
 
 pub has-hop-spec : {M : Type 1} → statement M
 has-hop-spec =

@@ -3,6 +3,7 @@
 use borrow.Author.Needs.{needs}
 use native.Mathlib.Omega.{arith}
 use mathlib.Core.Path.{sym, _∙_}
+use Rattle.faces.specs.Set.{mostFaces}
 use Rattle.records.specs.Slots.{given}
 use Rattle.routes.specs.View.{routeAt, view-place, view-none}
 use Rattle.routes.specs.HopLaws.{row-hops}
@@ -28,13 +29,13 @@ returns : tie.Need-returns
 unfolding given routeAt
 returns c =
     let a = c .before .before .before .before .args in
-    rw (view-place 16 (a .names .now) (a .heads .now) (a .costs .now) (a .count) (a .i) (omega arith)) (c .members .ensures ∙ sym (row-hops 16 _ _ _))
+    rw (view-place mostFaces (a .names .now) (a .heads .now) (a .costs .now) (a .count) (a .i) (omega arith)) (c .members .ensures ∙ sym (row-hops mostFaces _ _ _))
 
 returns-2 : tie.Need-returns-2
 unfolding given
 returns-2 c =
     let a = c .before .before .args in
-    rw (view-none 16 (a .names .now) (a .heads .now) (a .costs .now) (a .count) (a .i) (omega arith))
+    rw (view-none mostFaces (a .names .now) (a .heads .now) (a .costs .now) (a .count) (a .i) (omega arith))
 
 pub hops-of-spec : {M : Type 1} → statement M
 hops-of-spec =

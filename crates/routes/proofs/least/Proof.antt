@@ -4,14 +4,14 @@ use borrow.Author.Needs.{needs}
 use native.Mathlib.Omega.{arith}
 use lib.ListN.{getD}
 use Rattle.records.specs.Slots.{given}
-use Rattle.faces.specs.Set.{lowestOf}
+use Rattle.faces.specs.Set.{lowestOf, mostFaces}
 use Rattle.faces.specs.SlotLaws.{lowest-less}
 use Rattle.routes.specs.HopLaws.{Least, least-none, least-first, least-lower, least-stays, least-end}
 use Rattle.routes.proofs.least.Statement.{statement}
 use Rattle.routes.proofs.least.Tie as tie
 
 abbrev Inv-loop : tie.InvT-loop
-Inv-loop set row best₀ cost₀ left₀ best cost left = Least 16 (λ i. getD row i 0) set left best cost
+Inv-loop set row best₀ cost₀ left₀ best cost left = Least mostFaces (λ i. getD row i 0) set left best cost
 
 abbrev μ-loop : tie.MeasureT-loop
 μ-loop set row best₀ cost₀ left₀ best cost left = left
@@ -23,7 +23,7 @@ returns : tie.Need-returns Inv-loop μ-loop
 unfolding given
 returns c =
     let a = c .before .before .args in
-    rw (least-none 16 (omega arith) (λ i. getD (a .row .now) i 0) (a .set) _ (c .before .lowest .ensures) (omega arith))
+    rw (least-none mostFaces (omega arith) (λ i. getD (a .row .now) i 0) (a .set) _ (c .before .lowest .ensures) (omega arith))
 
 sub-cost : tie.Need-sub-cost Inv-loop μ-loop
 unfolding lowestOf
@@ -43,7 +43,7 @@ loop-holds : tie.Need-loop-holds Inv-loop μ-loop
 loop-holds c =
     let a = c .before .before .before .before .args in
     let low = c .before .before .before .lowest .ensures in
-    rw (c .remove .ensures) (least-first 16 (omega arith) (λ i. getD (a .row .now) i 0) (a .set) _ low (omega arith))
+    rw (c .remove .ensures) (least-first mostFaces (omega arith) (λ i. getD (a .row .now) i 0) (a .set) _ low (omega arith))
 
 lowest-requires-2 : tie.Need-lowest-requires-2 Inv-loop μ-loop
 lowest-requires-2 c κs = search needs
@@ -52,7 +52,7 @@ returns-2 : tie.Need-returns-2 Inv-loop μ-loop
 returns-2 c =
     let a = c .before .before .before .before .before .before .before .args in
     let l = c .before .before .loop in
-    least-end 16 (omega arith) (λ i. getD (a .row .now) i 0) (l .left) _ (c .before .lowest2 .ensures) _ _ _ (l .inv) (omega arith)
+    least-end mostFaces (omega arith) (λ i. getD (a .row .now) i 0) (l .left) _ (c .before .lowest2 .ensures) _ _ _ (l .inv) (omega arith)
 
 remove-requires-2 : tie.Need-remove-requires-2 Inv-loop μ-loop
 remove-requires-2 c κs = search needs
@@ -71,7 +71,7 @@ element-copy-out-next c = search needs
 loop-less : tie.Need-loop-less Inv-loop μ-loop
 loop-less c =
     let low = c .before .before .before .before .lowest2 .ensures in
-    rw (c .before .before .remove2 .ensures) (lowest-less 16 (c .before .before .before .before .before .loop .left) _ (omega arith) low (omega arith))
+    rw (c .before .before .remove2 .ensures) (lowest-less mostFaces (c .before .before .before .before .before .loop .left) _ (omega arith) low (omega arith))
 
 loop-again : tie.Need-loop-again Inv-loop μ-loop
 loop-again c =
@@ -79,12 +79,12 @@ loop-again c =
     let l = c .before .before .before .before .before .loop in
     let low = c .before .before .before .before .lowest2 .ensures in
     rw (c .before .before .remove2 .ensures)
-    (least-lower 16 (omega arith) (λ i. getD (a .row .now) i 0) (l .left) _ low _ _ _ (l .inv) (omega arith) (omega arith))
+    (least-lower mostFaces (omega arith) (λ i. getD (a .row .now) i 0) (l .left) _ low _ _ _ (l .inv) (omega arith) (omega arith))
 
 loop-less-2 : tie.Need-loop-less-2 Inv-loop μ-loop
 loop-less-2 c =
     let low = c .before .before .before .before .lowest2 .ensures in
-    rw (c .before .before .remove2 .ensures) (lowest-less 16 (c .before .before .before .before .before .loop .left) _ (omega arith) low (omega arith))
+    rw (c .before .before .remove2 .ensures) (lowest-less mostFaces (c .before .before .before .before .before .loop .left) _ (omega arith) low (omega arith))
 
 loop-again-2 : tie.Need-loop-again-2 Inv-loop μ-loop
 loop-again-2 c =
@@ -92,7 +92,7 @@ loop-again-2 c =
     let l = c .before .before .before .before .before .loop in
     let low = c .before .before .before .before .lowest2 .ensures in
     rw (c .before .before .remove2 .ensures)
-    (least-stays 16 (omega arith) (λ i. getD (a .row .now) i 0) (l .left) _ low _ _ _ (l .inv) (omega arith) (omega arith))
+    (least-stays mostFaces (omega arith) (λ i. getD (a .row .now) i 0) (l .left) _ low _ _ _ (l .inv) (omega arith) (omega arith))
 
 pub least-spec : {M : Type 1} → statement M
 least-spec =

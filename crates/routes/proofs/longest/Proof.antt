@@ -4,6 +4,7 @@ use borrow.Author.Needs.{needs}
 use native.Mathlib.Omega.{arith}
 use mathlib.Core.Path.{sym, _∙_}
 use Prim.Native.Nat.{_-_, _≤_}
+use Rattle.faces.specs.Set.{mostFaces}
 use Rattle.routes.specs.View.{view, routeAt, routeRow, view-drop, view-end}
 use Rattle.routes.specs.LongestLaws.{Best, best-none, best-all, best-here, best-short, best-apart}
 use Rattle.routes.proofs.longest.Statement.{statement}
@@ -11,7 +12,7 @@ use Rattle.routes.proofs.longest.Tie as tie
 
 abbrev Inv-loop : tie.InvT-loop
 Inv-loop names heads costs count name n best₀ most₀ i₀ best most i =
-    (i ≤ n) × Best name (view 16 names heads costs count) i best most
+    (i ≤ n) × Best name (view mostFaces names heads costs count) i best most
 
 abbrev μ-loop : tie.MeasureT-loop
 μ-loop names heads costs count name n best₀ most₀ i₀ best most i = i
@@ -22,7 +23,7 @@ clamped-requires c κs = search needs
 loop-holds : tie.Need-loop-holds Inv-loop μ-loop
 loop-holds c =
     let a = c .before .before .args in
-    (omega arith, best-none _ _ _ (view-end 16 (a .names .now) (a .heads .now) (a .costs .now) (a .count) (c .clamped .result) (omega arith)))
+    (omega arith, best-none _ _ _ (view-end mostFaces (a .names .now) (a .heads .now) (a .costs .now) (a .count) (c .clamped .result) (omega arith)))
 
 sub-i : tie.Need-sub-i Inv-loop μ-loop
 sub-i c = search needs
@@ -56,7 +57,7 @@ unfolding routeAt routeRow
 loop-again c =
     let l = c .before .before .before .before .before .before .before .before .loop in
     let a = c .before .before .before .before .before .before .before .before .before .before .before .args in
-    let here = view-drop 16 (a .names .now) (a .heads .now) (a .costs .now) (a .count) (l .i - 1) (omega arith) in (
+    let here = view-drop mostFaces (a .names .now) (a .heads .now) (a .costs .now) (a .count) (l .i - 1) (omega arith) in (
       omega arith,
       best-here _ _ _ _ _ _ _ (omega arith) here (c .before .before .before .part .ensures) (l .inv .1) (omega arith)
           (sym (c .before .is-prefix .ensures) ∙ c .if2 .taken),
@@ -70,7 +71,7 @@ unfolding routeAt routeRow
 loop-again-2 c =
     let l = c .before .before .before .before .before .before .before .before .loop in
     let a = c .before .before .before .before .before .before .before .before .before .before .before .args in
-    let here = view-drop 16 (a .names .now) (a .heads .now) (a .costs .now) (a .count) (l .i - 1) (omega arith) in (
+    let here = view-drop mostFaces (a .names .now) (a .heads .now) (a .costs .now) (a .count) (l .i - 1) (omega arith) in (
       omega arith,
       best-apart _ _ _ _ _ _ _ (omega arith) here (c .before .before .before .part .ensures) (l .inv .1)
           (sym (c .before .is-prefix .ensures) ∙ c .if2 .left),
@@ -84,7 +85,7 @@ unfolding routeAt routeRow
 loop-again-3 c =
     let l = c .before .before .before .before .before .before .loop in
     let a = c .before .before .before .before .before .before .before .before .before .args in
-    let here = view-drop 16 (a .names .now) (a .heads .now) (a .costs .now) (a .count) (l .i - 1) (omega arith) in
+    let here = view-drop mostFaces (a .names .now) (a .heads .now) (a .costs .now) (a .count) (l .i - 1) (omega arith) in
     (omega arith, best-short _ _ _ _ _ _ _ (omega arith) here (c .before .part .ensures) (l .inv .1) (omega arith))
 
 returns : tie.Need-returns Inv-loop μ-loop

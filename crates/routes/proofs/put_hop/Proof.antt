@@ -4,6 +4,7 @@ use borrow.Author.Needs.{needs}
 use native.Mathlib.Omega.{arith}
 use Prim.Native.Nat.{_-_}
 use lib.Seq.{getD-set-same, getD-set-other}
+use Rattle.faces.specs.Set.{mostFaces}
 use Rattle.records.specs.FaceLaws.{face-yes}
 use Rattle.routes.specs.HopLaws.{row-put}
 use Rattle.routes.proofs.put_hop.Statement.{statement}
@@ -36,10 +37,10 @@ element-write-row c = search needs
 returns : tie.Need-returns
 returns c name =
     let a = c .before .before .before .before .before .args in
-    let there = face-yes 16 (a .face) .1 (c .before .before .before .before .before .pre) in
+    let there = face-yes mostFaces (a .face) .1 (c .before .before .before .before .before .pre) in
     let rows = c .before .before .before .has-all-faces .ensures in
     rw (c .before .add .ensures)
-    (row-put 16 (a .face) name (a .head .now) (a .cost) (a .row .now) _ there
+    (row-put mostFaces (a .face) name (a .head .now) (a .cost) (a .row .now) _ there
     (getD-set-same (a .row .now) (a .face - 1) (a .cost) 0 (omega arith))
     (λ i d. getD-set-other (a .row .now) (a .face - 1) i (a .cost) 0 d))
 

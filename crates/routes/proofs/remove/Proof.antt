@@ -5,6 +5,7 @@ use native.Mathlib.Omega.{arith}
 use mathlib.Core.Path.{_≡_, refl, sym, _∙_}
 use Prim.Native.Nat.{_+_, _-_, _≤_}
 use mathlib.Core.List.{[]}
+use Rattle.faces.specs.Set.{mostFaces}
 use Rattle.laws.specs.Loop.{turns, turns-turn, turns-end}
 use Rattle.laws.specs.Rows.{down}
 use Rattle.laws.specs.Tab.{without-out}
@@ -27,8 +28,8 @@ clamped-requires c κs = search needs
 returns : tie.Need-returns Inv-loop μ-loop
 returns c =
     let a = c .before .before .args in
-    let len = view-length 16 (a .names .now) (a .heads .now) (a .costs .now) (a .count) in
-    view-cut 16 _ _ _ _ _ (c .before .clamped .ensures) ∙ sym (without-out _ _ (omega arith))
+    let len = view-length mostFaces (a .names .now) (a .heads .now) (a .costs .now) (a .count) in
+    view-cut mostFaces _ _ _ _ _ (c .before .clamped .ensures) ∙ sym (without-out _ _ (omega arith))
 
 has-all-names-requires : tie.Need-has-all-names-requires Inv-loop μ-loop
 has-all-names-requires c κs = search needs
@@ -107,7 +108,7 @@ returns-2 c =
     let t = c .loop-test .left in
     let m = c .before .before .before .before .before .before .before .before .before .clamped in
     rw (l .inv .2 ∙ turns-end _ _ _ _ t, l .inv .3 ∙ turns-end _ _ _ _ t, l .inv .4 ∙ turns-end _ _ _ _ t)
-    at (view-without 16 (a .names .now) (a .heads .now) (a .costs .now) (a .count) (a .i) (m .result) (sym (m .ensures))
+    at (view-without mostFaces (a .names .now) (a .heads .now) (a .costs .now) (a .count) (a .i) (m .result) (sym (m .ensures))
     (omega arith) (omega arith) (omega arith) (omega arith))
 
 pub remove-spec : {M : Type 1} → statement M

@@ -3,6 +3,7 @@
 use borrow.Author.Needs.{needs}
 use native.Mathlib.Omega.{arith}
 use mathlib.Core.Path.{refl, sym, _∙_}
+use Rattle.faces.specs.Set.{mostFaces}
 use Rattle.records.specs.Class.{classOf}
 use Rattle.records.specs.Route.{withClass}
 use Rattle.routes.specs.View.{routeAt, view-length, view-cut, view-snoc, view-head}
@@ -44,26 +45,26 @@ returns c =
     let n = c .before .before .before .before .before .before .before .clamped in
     let i = c .before .before .before .before .find in
     let rows = c .before .before .has-all-heads .ensures in
-    let len = view-length 16 (a .names .now) (a .heads .now) (a .costs .now) (a .count) in
+    let len = view-length mostFaces (a .names .now) (a .heads .now) (a .costs .now) (a .count) in
     let cls = classOf (a .class) in
-    let changed = view-head 16 (a .names .now) (a .heads .now) (a .costs .now) (a .count) (i .result) _ (withClass cls) (omega arith) (row-class 16 (a .class) _ _ _) in
-    set-known 16 (a .prefix .now) cls _ _ _ refl (omega arith) (view-cut 16 _ _ _ _ _ (n .ensures) ∙ rw (← (i .ensures)) changed)
+    let changed = view-head mostFaces (a .names .now) (a .heads .now) (a .costs .now) (a .count) (i .result) _ (withClass cls) (omega arith) (row-class mostFaces (a .class) _ _ _) in
+    set-known mostFaces (a .prefix .now) cls _ _ _ refl (omega arith) (view-cut mostFaces _ _ _ _ _ (n .ensures) ∙ rw (← (i .ensures)) changed)
 
 returns-2 : tie.Need-returns-2
 returns-2 c =
     let a = c .before .before .before .before .before .before .before .before .before .args in
     let n = c .before .before .before .before .before .before .before .clamped in
     let i = c .before .before .before .before .find in
-    let len = view-length 16 (a .names .now) (a .heads .now) (a .costs .now) (a .count) in
-    set-long 16 (a .prefix .now) (classOf (a .class)) _ _ _ (omega arith) (omega arith) refl (view-cut 16 _ _ _ _ _ (n .ensures))
+    let len = view-length mostFaces (a .names .now) (a .heads .now) (a .costs .now) (a .count) in
+    set-long mostFaces (a .prefix .now) (classOf (a .class)) _ _ _ (omega arith) (omega arith) refl (view-cut mostFaces _ _ _ _ _ (n .ensures))
 
 returns-3 : tie.Need-returns-3
 returns-3 c =
     let a = c .before .before .before .before .before .before .before .before .before .before .args in
     let n = c .before .before .before .before .before .before .before .before .clamped in
     let i = c .before .before .before .before .before .find in
-    let len = view-length 16 (a .names .now) (a .heads .now) (a .costs .now) (a .count) in
-    set-full 16 (a .prefix .now) (classOf (a .class)) _ _ _ (omega arith) (omega arith) refl (view-cut 16 _ _ _ _ _ (n .ensures))
+    let len = view-length mostFaces (a .names .now) (a .heads .now) (a .costs .now) (a .count) in
+    set-full mostFaces (a .prefix .now) (classOf (a .class)) _ _ _ (omega arith) (omega arith) refl (view-cut mostFaces _ _ _ _ _ (n .ensures))
 
 has-all-names-requires : tie.Need-has-all-names-requires
 has-all-names-requires c κs = search needs
@@ -93,10 +94,10 @@ returns-4 c =
     let i = c .before .before .before .before .before .before .before .before .before .find in
     let rows = c .before .before .before .before .before .before .before .has-all-heads .ensures in
     let all = c .before .before .has-all-names .ensures in
-    let len = view-length 16 (a .names .now) (a .heads .now) (a .costs .now) (a .count) in
-    set-new 16 (a .prefix .now) (classOf (a .class)) _ _ _ (omega arith) refl (omega arith) (omega arith)
-    (view-snoc 16 (a .names .now) (a .heads .now) (a .costs .now) (a .count) _ _ _ (n .result) (sym (n .ensures)) (omega arith) (omega arith) (omega arith)
-    (row-new 16 (a .class) (a .prefix .now) _ _ (c .write-prefix .ensures)))
+    let len = view-length mostFaces (a .names .now) (a .heads .now) (a .costs .now) (a .count) in
+    set-new mostFaces (a .prefix .now) (classOf (a .class)) _ _ _ (omega arith) refl (omega arith) (omega arith)
+    (view-snoc mostFaces (a .names .now) (a .heads .now) (a .costs .now) (a .count) _ _ _ (n .result) (sym (n .ensures)) (omega arith) (omega arith) (omega arith)
+    (row-new mostFaces (a .class) (a .prefix .now) _ _ (c .write-prefix .ensures)))
 
 pub set-spec : {M : Type 1} → statement M
 set-spec =
