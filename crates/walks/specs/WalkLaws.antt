@@ -25,10 +25,11 @@ use Rattle.records.specs.LeastLaws.{least-step}
 use Rattle.records.specs.Entry.{Sent, withRequests, isLive, ifLive, agedEntry, hasNonce, newestOf, wasNacked, lesserReason, smallestReason, allNacked}
 use Rattle.records.specs.Line.{Line, joined, joinedAll}
 use Rattle.records.specs.Ageing.{buriedBy}
-use Rattle.faces.specs.Set.{hasFace, withFace, withoutFace, lowestOf, facesWhere}
-use Rattle.faces.specs.SetLaws.{has-after, has-added-same, has-added-other, has-removed-same, has-removed-other, lowest-before, where-has, where-is, where-ext, lowest-has}
+use Rattle.faces.specs.Set.{hasFace, withFace, withoutFace, facesWhere}
+use Rattle.faces.specs.SetLaws.{has-after, has-added-same, has-added-other, has-removed-same, has-removed-other, lowest-before, where-has, where-is, where-ext}
 use Rattle.faces.specs.Slots.{slotsOf, slotFor}
-use Rattle.faces.specs.SlotLaws.{lowest-less, holds-there, slots-slot, slots-only, any-held, held-more, held-end}
+use Rattle.faces.specs.WalkLaws.{Walks, walk-has, walk-more, walk-end}
+use Rattle.faces.specs.SlotLaws.{holds-there, slots-slot, slots-only, any-held}
 use Rattle.entries.specs.View.{requestAt, nackWord, sentAt, view, view-name, view-prefix, view-fresh, view-class, view-requests, view-sent}
 use Rattle.entries.specs.Operations.{overdue, newestIn, newestTime, earliestOf, nacksIn, nacksOf}
 use Rattle.entries.specs.ChangeLaws.{view-is}
@@ -46,35 +47,6 @@ columnAt recs k i = getD (getD recs i []) k 0
 -- the out-records of the faces of a set, by face
 abbrev pub sentIn : ℕ → ℕ → List (List ℕ) → List (Held Sent)
 sentIn n s recs = held (slotsOf n s (sentAt recs))
-
--- a walk with the set s left is at face f
-pub record Walks (n s f : ℕ) : Type 0 where
-  pub few : n ≤ 64
-  pub lowest : f ≡ lowestOf n s
-  pub first : 1 ≤ f
-
--- a walk is at the lowest face of what is left
-pub walks : {n s f : ℕ} → n ≤ 64 → f ≡ lowestOf n s → Walks n s f
-unfolding lowestOf
-walks w e = record { few = w; lowest = e; first = omega arith }
-
-module _ {n s f : ℕ} (a : Walks n s f) where
-  -- a walk is at a face of what is left
-  walk-has : f ≤ n → hasFace n s f ≡ true
-  walk-has l = rw (a .lowest) (lowest-has n s (a .few) (omega arith))
-
-  -- each turn of a walk leaves a smaller set
-  pub walk-less : f ≤ n → {t : ℕ} → t ≡ withoutFace n s f → t < s
-  walk-less l e = omega (arith, lowest-less n s f (a .few) (a .lowest) l)
-
-  -- a turn takes what is held for the face, and leaves what is held without it
-  pub walk-more : f ≤ n → {t : ℕ} → t ≡ withoutFace n s f → {A : Type 0} (g : ℕ → A)
-      → held (slotsOf n s g) ≡ record { face = f; what = g (f - 1) } ∷ held (slotsOf n t g)
-  walk-more l e g = rw (e, a .lowest) (held-more n s g (a .few) (omega arith))
-
-  -- at the end nothing is left
-  pub walk-end : n < f → {A : Type 0} (g : ℕ → A) → held (slotsOf n s g) ≡ []
-  walk-end l g = held-end n s g (a .few) (omega arith)
 
 -- the newest of a time and of those after it
 unfoldable pub newer : ℕ → Option ℕ → Option ℕ

@@ -8,9 +8,10 @@ use Rattle.laws.specs.Any.{anyOf}
 use Rattle.faces.specs.Set.{mostFaces}
 use Rattle.faces.specs.Slots.{slotsOf}
 use Rattle.records.specs.Slots.{held}
-use Rattle.walks.specs.WalkLaws.{word, Walks, walks, walk-less, walk-end, columnAt, any-turn}
+use Rattle.walks.specs.WalkLaws.{word, columnAt, any-turn}
 use Rattle.walks.proofs.column_has.Statement.{statement}
 use Rattle.walks.proofs.column_has.Tie as tie
+use Rattle.faces.specs.WalkLaws.{Walks, walks, walk-less, walk-end}
 
 abbrev Inv-loop : tie.InvT-loop
 Inv-loop set recs column nonce left₀ f₀ left f =

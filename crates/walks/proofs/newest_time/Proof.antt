@@ -7,9 +7,10 @@ use Rattle.faces.specs.Set.{mostFaces}
 use Rattle.records.specs.Entry.{newestOf}
 use Rattle.entries.specs.View.{sentAt}
 use Rattle.entries.specs.Operations.{newestIn}
-use Rattle.walks.specs.WalkLaws.{sentIn, Walks, walks, walk-less, walk-end, newer, newest-start, newest-turn, newest-end, view-newest}
+use Rattle.walks.specs.WalkLaws.{sentIn, newer, newest-start, newest-turn, newest-end, view-newest}
 use Rattle.walks.proofs.newest_time.Statement.{statement}
 use Rattle.walks.proofs.newest_time.Tie as tie
+use Rattle.faces.specs.WalkLaws.{Walks, walks, walk-less, walk-end}
 
 abbrev Inv-loop : tie.InvT-loop
 Inv-loop head recs left₀ f₀ newest₀ left f newest =

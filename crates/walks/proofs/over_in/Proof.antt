@@ -2,9 +2,10 @@
 use borrow.Author.Needs.{needs}
 use native.Mathlib.Omega.{arith}
 use Rattle.faces.specs.Set.{mostFaces}
-use Rattle.walks.specs.WalkLaws.{Walks, walks, walk-less, Overs, overs-start, overs-turn, overs-end}
+use Rattle.walks.specs.WalkLaws.{Overs, overs-start, overs-turn, overs-end}
 use Rattle.walks.proofs.over_in.Statement.{statement}
 use Rattle.walks.proofs.over_in.Tie as tie
+use Rattle.faces.specs.WalkLaws.{Walks, walks, walk-less}
 
 abbrev Inv-loop : tie.InvT-loop
 Inv-loop set recs time over₀ left₀ f₀ over left f = Walks mostFaces left f × Overs mostFaces time recs set left over
