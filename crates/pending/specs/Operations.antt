@@ -11,7 +11,7 @@ use Rattle.laws.specs.Tab.{onAt, indexOf}
 use Rattle.records.specs.Class.{classNumber}
 use Rattle.records.specs.Slots.{given, atPlace}
 use Rattle.records.specs.Entry.{Entry, matches, usedBy, isAlarm, isMonitoring, isBulk, isOther}
-use Rattle.pending.specs.declared.Changed.{Changed}
+use Rattle.rows.specs.declared.Changed.{Changed}
 use Rattle.pending.specs.declared.Facts.{Facts}
 use Rattle.pending.specs.declared.Uses.{Uses}
 

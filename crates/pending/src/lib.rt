@@ -4,6 +4,7 @@ use entries::bare;
 use faces::FACES;
 use names::is_prefix;
 use names::same;
+use rows::Changed;
 use rows::clamped;
 use rows::part;
 use wire::Put;
@@ -36,12 +37,6 @@ pub type Heads = [[u64; 6]; 64];
 
 // The records of each entry, as `entries` has them.
 pub type Records = [[[u64; 5]; FACES]; 64];
-
-// Whether an entry was opened, and how many there are then.
-pub struct Changed {
-    pub fits: bool,
-    pub count: usize,
-}
 
 // What an entry is known by beside its name, and its class word.
 pub struct Facts {

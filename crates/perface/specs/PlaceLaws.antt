@@ -36,10 +36,6 @@ module _ (n : ℕ) (names heads : List (List ℕ)) (recs : List (List (List ℕ)
   unfolding given
   said-none d g e l = rw (place-no e l)
 
-  -- past the last row nothing changes
-  pub changed-none : (g : Entry → Entry) → 64 ≤ i → view n names heads recs count ≡ onAt i g (view n names heads recs count)
-  changed-none g l = sym (onAt-out i g _ (omega (arith, view-length n names heads recs count)))
-
   -- past the last entry nothing changes
   pub changed-past : (g : Entry → Entry) {m : ℕ} → m ≡ min count 64 → m ≤ i → view n names heads recs count ≡ onAt i g (view n names heads recs count)
   changed-past g e l = sym (onAt-out i g _ (omega (arith, view-length n names heads recs count)))

@@ -47,7 +47,7 @@ pub fn renew(
 )
     ensures { λ _. ⌜ view mostFaces (now (names .entry)) (now (heads .exit)) (now (recs .exit)) count ≡ onAt i (asking mostFaces face nonce expiry) (view mostFaces (now (names .entry)) (now (heads .entry)) (now (recs .entry)) count) ⌝ }
 {
-    if i < 64 {
+    if i < clamped(count, 64) {
         has_all_heads(*heads);
         has_all_records(*recs);
         entries::renew(&mut heads[i], &mut recs[i], face, nonce, expiry);
@@ -65,7 +65,7 @@ pub fn end_request(
 )
     ensures { λ _. ⌜ view mostFaces (now (names .entry)) (now (heads .exit)) (now (recs .entry)) count ≡ onAt i (notAsking mostFaces face) (view mostFaces (now (names .entry)) (now (heads .entry)) (now (recs .entry)) count) ⌝ }
 {
-    if i < 64 {
+    if i < clamped(count, 64) {
         has_all_heads(*heads);
         has_all_records(*recs);
         entries::end_request(&mut heads[i], &recs[i], face);
@@ -85,7 +85,7 @@ pub fn send(
 )
     ensures { λ _. ⌜ view mostFaces (now (names .entry)) (now (heads .exit)) (now (recs .exit)) count ≡ onAt i (sending mostFaces face nonce time) (view mostFaces (now (names .entry)) (now (heads .entry)) (now (recs .entry)) count) ⌝ }
 {
-    if i < 64 {
+    if i < clamped(count, 64) {
         has_all_heads(*heads);
         has_all_records(*recs);
         entries::send(&mut heads[i], &mut recs[i], face, nonce, time);
@@ -103,7 +103,7 @@ pub fn end_sent(
 )
     ensures { λ _. ⌜ view mostFaces (now (names .entry)) (now (heads .exit)) (now (recs .entry)) count ≡ onAt i (notSent mostFaces face) (view mostFaces (now (names .entry)) (now (heads .entry)) (now (recs .entry)) count) ⌝ }
 {
-    if i < 64 {
+    if i < clamped(count, 64) {
         has_all_heads(*heads);
         has_all_records(*recs);
         entries::end_sent(&mut heads[i], &recs[i], face);
@@ -122,7 +122,7 @@ pub fn mark_nacked(
 )
     ensures { λ _. ⌜ view mostFaces (now (names .entry)) (now (heads .entry)) (now (recs .exit)) count ≡ onAt i (nacking mostFaces face reason) (view mostFaces (now (names .entry)) (now (heads .entry)) (now (recs .entry)) count) ⌝ }
 {
-    if i < 64 {
+    if i < clamped(count, 64) {
         has_all_heads(*heads);
         has_all_records(*recs);
         entries::mark_nacked(&heads[i], &mut recs[i], face, reason);

@@ -15,7 +15,7 @@ use Rattle.records.specs.Class.{Class, classNumber}
 use Rattle.records.specs.Slots.{slot, isSome, given, held, only}
 use Rattle.records.specs.Face.{isFace}
 use Rattle.records.specs.Route.{Route, routeOf, withClass, newRoute, withHop, longest, leastBy}
-use Rattle.routes.specs.declared.Changed.{Changed}
+use Rattle.rows.specs.declared.Changed.{Changed}
 
 -- whether a prefix is known
 unfoldable pub isRoute : List ℕ → List Route → Bool

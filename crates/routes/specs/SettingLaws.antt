@@ -14,7 +14,7 @@ use Rattle.faces.specs.SlotLaws.{slots-none}
 use Rattle.records.specs.Class.{Class, classOf}
 use Rattle.records.specs.ClassLaws.{class-number}
 use Rattle.records.specs.Route.{Route, routeOf, withClass, newRoute}
-use Rattle.routes.specs.declared.Changed.{Changed}
+use Rattle.rows.specs.declared.Changed.{Changed}
 use Rattle.routes.specs.View.{routeRow}
 use Rattle.routes.specs.Operations.{isRoute, hasRoom, withRoute, Sets, classWord}
 

@@ -2,6 +2,7 @@
 use faces::FACES;
 use names::is_prefix;
 use names::same;
+use rows::Changed;
 use rows::clamped;
 use rows::part;
 use wire::put_bytes;
@@ -29,12 +30,6 @@ pub type Heads = [[u64; 3]; 32];
 
 // For each route the cost of each face that is a next hop.
 pub type Costs = [[u64; FACES]; 32];
-
-// Whether a route was set, and how many there are then.
-pub struct Changed {
-    pub fits: bool,
-    pub count: usize,
-}
 
 // How many routes there are.
 pub fn size(names: &Names, heads: &Heads, costs: &Costs, count: usize) -> usize

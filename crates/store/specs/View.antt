@@ -18,7 +18,7 @@ use Rattle.packets.specs.Name.{nameOf}
 use Rattle.records.specs.Slots.{given, atPlace}
 use Rattle.records.specs.PlaceLaws.{place-in, place-past}
 use Rattle.records.specs.Stored.{Stored, stored}
-use Rattle.store.specs.declared.Changed.{Changed}
+use Rattle.rows.specs.declared.Changed.{Changed}
 
 -- a Data of some bytes, its name read where it stands in them
 unfoldable pub dataOf : List ℕ → ℕ → ℕ → Stored

@@ -4,6 +4,7 @@ use names::compare;
 use names::is_prefix;
 use names::same;
 use packets::find_name;
+use rows::Changed;
 use rows::clamped;
 use rows::part;
 use wire::put_bytes;
@@ -23,12 +24,6 @@ pub type Packets = [[u8; 1500]; 8];
 
 // For each packet its length, when it was stored, and its freshness as it counts.
 pub type Heads = [[u64; 3]; 8];
-
-// Whether a Data was stored, and how many there are then.
-pub struct Changed {
-    pub fits: bool,
-    pub count: usize,
-}
 
 // How many Data there are.
 pub fn size(packets: &Packets, heads: &Heads, count: usize) -> usize
