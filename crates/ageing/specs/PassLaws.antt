@@ -10,12 +10,13 @@ use native.Mathlib.Nat.{zero-add}
 use native.Mathlib.Numerals.{add-one}
 use lib.ListN.{length, take, drop, set, length-append, length-map, length-set, take-append-drop}
 use lib.Seq.{sets, take-set-le, drop-set-lt, take-suc-set, drop-drop, take-all}
-use Rattle.laws.specs.Pick.{pick, pick-yes, pick-no}
-use Rattle.laws.specs.Writes.{sets-append}
+use Rattle.laws.specs.Pick.{pick}
+use Rattle.laws.specs.Laws.Pick.{pick-yes, pick-no}
+use Rattle.laws.specs.Laws.Writes.{sets-append}
 use Rattle.faces.specs.Slots.{facesIn}
-use Rattle.faces.specs.HeldLaws.{faces-held}
-use Rattle.records.specs.EachLaws.{map-append, each-append, only-append, only-length, held-length}
-use Rattle.records.specs.PlaceLaws.{place-some, place-lt, place-drop, place-take}
+use Rattle.faces.specs.Laws.Held.{faces-held}
+use Rattle.records.specs.Laws.Each.{map-append, each-append, only-append, only-length, held-length}
+use Rattle.records.specs.Laws.Place.{place-some, place-lt, place-drop, place-take}
 use Rattle.records.specs.Class.{classNumber}
 use Rattle.records.specs.Slots.{atPlace, Held, held, heldFrom, only, each}
 use Rattle.entries.specs.Operations.{overdue}

@@ -10,13 +10,15 @@ use native.Mathlib.Nat.{mul-le-mul-left}
 use lib.ListN.{length, getD, set}
 use lib.Seq.{set-set}
 use lib.Dec.{ltb}
-use Rattle.laws.specs.Pick.{pick, pick-yes, pick-no}
-use Rattle.laws.specs.Tab.{onAt, onAt-set}
+use Rattle.laws.specs.Pick.{pick}
+use Rattle.laws.specs.Laws.Pick.{pick-yes, pick-no}
+use Rattle.laws.specs.Lists.{onAt}
+use Rattle.laws.specs.Laws.Tab.{onAt-set}
 use Rattle.faces.specs.Slots.{facesIn}
-use Rattle.faces.specs.SlotLaws.{slots-length}
+use Rattle.faces.specs.Laws.Slot.{slots-length}
 use Rattle.records.specs.Class.{classNumber}
 use Rattle.records.specs.Slots.{given, atPlace}
-use Rattle.records.specs.PlaceLaws.{place-onAt, place-set}
+use Rattle.records.specs.Laws.Place.{place-onAt, place-set}
 use Rattle.records.specs.Entry.{Entry, withRequests, isIdle, agedEntry}
 use Rattle.records.specs.Line.{Line, joinedAll}
 use Rattle.records.specs.Happening.{rowOf}

@@ -19,7 +19,7 @@ ghost use Rattle.names.specs.Fingerprint.{fingerprint};
 ghost use Rattle.faces.specs.Set.{mostFaces};
 ghost use Rattle.records.specs.Slots.{atPlace};
 ghost use Rattle.records.specs.Entry.{Entry};
-ghost use Rattle.dead.specs.View as dead;
+ghost use Rattle.dead.specs.Places.View as dead;
 ghost use Rattle.pending.specs.View as pending;
 ghost use Rattle.ageing.specs.Ages.{Ages};
 ghost use Rattle.ageing.specs.Pass.{Turned};

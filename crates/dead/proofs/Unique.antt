@@ -5,7 +5,7 @@ use contract.Lifetimes.{Lfts}
 use denote.Ref.{now}
 use denote.Triple.Clauses.{AtExit}
 use borrow.Fn.Kinds.{Dens, endedOf, resT}
-use Rattle.dead.specs.View.{view}
+use Rattle.dead.specs.Places.View.{view}
 use Rattle.dead.proofs.cleared.Kinds as cleared-kinds
 use Rattle.dead.proofs.cleared.Reads as cleared-reads
 use Rattle.dead.proofs.join.Kinds as join-kinds

@@ -4,7 +4,7 @@ ghost use mathlib.Core.Path.{_≡_};
 ghost use mathlib.Core.List.{[]};
 ghost use lib.ListN.{length};
 ghost use Rattle.records.specs.Line.{joined, counts, isDead};
-ghost use Rattle.dead.specs.View.{line, lineOf, view};
+ghost use Rattle.dead.specs.Places.View.{line, lineOf, view};
 
 // The lines, lent by the caller: fingerprint and time.
 pub type Lines = [[u64; 2]; 256];

@@ -10,16 +10,18 @@ use lib.ListN.{length, getD, take}
 use lib.Seq.{set-getD}
 use lib.Dec.{eqb}
 use borrow.Author.Tests.{ne-eqb}
-use Rattle.laws.specs.Digits.{added-present, member-no, digit-zero}
-use Rattle.laws.specs.Pick.{pick, pick-ap, pick-yes, pick-no}
-use Rattle.laws.specs.Rows.{at, at-same, at-other, at-leaves}
+use Rattle.laws.specs.Laws.Digits.{added-present, member-no, digit-zero}
+use Rattle.laws.specs.Pick.{pick}
+use Rattle.laws.specs.Laws.Pick.{pick-ap, pick-yes, pick-no}
+use Rattle.laws.specs.Places.Rows.{at}
+use Rattle.laws.specs.Laws.Rows.{at-same, at-other, at-leaves}
 use Rattle.faces.specs.Set.{hasFace, withFace, withoutFace, sizeOf, facesWhere}
-use Rattle.faces.specs.SetLaws.{has-face, has-member, where-ext}
+use Rattle.faces.specs.Laws.Set.{has-face, has-member, where-ext}
 use Rattle.faces.specs.Slots.{slotsOf, slotFor}
-use Rattle.faces.specs.SlotLaws.{slots-same, slots-put, slots-take, slots-none, slots-slot, slots-some, slots-idle}
+use Rattle.faces.specs.Laws.Slot.{slots-same, slots-put, slots-take, slots-none, slots-slot, slots-some, slots-idle}
 use Rattle.records.specs.Class.{Class, classOf}
 use Rattle.records.specs.Face.{isFace}
-use Rattle.records.specs.FaceLaws.{face-yes}
+use Rattle.records.specs.Laws.Face.{face-yes}
 use Rattle.records.specs.Slots.{slot, setSlot, given}
 use Rattle.records.specs.Entry.{Request, Sent, Entry, withRequests, withSent, markNacked, withNack, reasonOf, isIdle}
 use Rattle.entries.specs.declared.Nonce.{Nonce}

@@ -5,7 +5,7 @@ use contract.Lifetimes.{Lfts}
 use denote.Triple.Clauses.{AtExit}
 use borrow.Fn.Kinds.{Dens, endedOf, resT}
 use Rattle.faces.specs.Set.{mostFaces}
-use Rattle.faces.specs.View.{view}
+use Rattle.faces.specs.Places.View.{view}
 use Rattle.faces.proofs.has.Kinds as has-kinds
 use Rattle.faces.proofs.has.Reads as has-reads
 use Rattle.faces.proofs.add.Kinds as add-kinds

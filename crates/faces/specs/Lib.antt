@@ -1,8 +1,5 @@
 pub mod Set
-pub mod SetLaws
 pub mod Slots
-pub mod SlotLaws
-pub mod WalkLaws
-pub mod View
-pub mod ViewLaws
-pub mod HeldLaws
+pub mod Operations
+pub mod Places
+pub mod Laws

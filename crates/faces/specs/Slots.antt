@@ -5,7 +5,7 @@ use mathlib.Core.List.{List, map}
 use mathlib.Core.Option.{Option, none, some}
 use Rattle.laws.specs.Pick.{pick}
 use Rattle.laws.specs.Digits.{member}
-use Rattle.laws.specs.Tab.{tab}
+use Rattle.laws.specs.Places.Tab.{tab}
 use Rattle.records.specs.Slots.{slot, held}
 use Rattle.records.specs.Face.{isFace}
 

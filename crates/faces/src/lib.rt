@@ -6,7 +6,8 @@ ghost use mathlib.Core.Bool.{_&&_, _||_, not};
 ghost use Rattle.laws.specs.Pick.{pick};
 ghost use Rattle.records.specs.Face.{isOpen, isLocalFace, isPeer, isAdHocFace};
 ghost use Rattle.faces.specs.Set.{mostFaces, hasFace, withFace, withoutFace, sizeOf, lowestOf, facesWhere};
-ghost use Rattle.faces.specs.View.{view, asked, opened, shut, closed};
+ghost use Rattle.faces.specs.Places.View.{view};
+ghost use Rattle.faces.specs.Operations.{asked, opened, shut, closed};
 
 // "Faces 1 to 16": the one constant of the code.
 pub const FACES: usize = 16;

@@ -1,6 +1,4 @@
 pub mod Table
-pub mod TableLaws
 pub mod Walk
-pub mod WalkLaws
-pub mod Change
-pub mod Fits
+pub mod Places
+pub mod Laws

@@ -1,13 +1,12 @@
 -- Document 01, "Reading packets": which types are known, in which parent, in which order and with which length; and what a type that
 -- is not known says.
 -- Assumes nothing.
-use Prim.Native.Nat.{ℕ, _+_, _%_}
-use mathlib.Core.Path.{_≡_, refl}
-use mathlib.Core.Bool.{Bool, true, false, _&&_, _||_}
+use Prim.Native.Nat.{ℕ, _%_}
+use mathlib.Core.Bool.{Bool, true, _&&_, _||_}
 use mathlib.Core.List.{List, [], _∷_}
-use lib.Dec.{ltb, leb, eqb}
+use lib.Dec.{leb, eqb}
 use Rattle.laws.specs.Pick.{pick}
-use Rattle.wire.specs.Place.{isWhole}
+use Rattle.wire.specs.Number.{isWhole}
 use Rattle.grammar.specs.declared.Row.{Row}
 
 abbrev pub row : ℕ → ℕ → ℕ → ℕ → ℕ → Row
@@ -95,12 +94,6 @@ unfoldable pub rowOf : ℕ → ℕ → List Row → Row
 rowOf p t [] = none
 rowOf p t (r ∷ rs) = pick (hit p t r) r (rowOf p t rs)
 
--- a row from which on all rows of a parent stand
-unfoldable pub start : ℕ → ℕ
-start p =
-    pick (eqb p interest) 3
-    (pick (eqb p dat) 13 (pick (eqb p meta) 18 (pick (eqb p fragment) 21 (pick (eqb p lp) 23 (pick (eqb p nack) 25 0)))))
-
 -- whether a value's length fits a rule
 unfoldable pub fits : ℕ → ℕ → Bool
 fits u n =
@@ -121,28 +114,3 @@ unfoldable pub other : ℕ → ℕ → ℕ → ℕ
 other p t last =
     pick (eqb p nack) 5
     (pick (eqb p lp) (pick (eqb last 2) 5 (pick (skippedLp t) 0 6)) (pick (critical t) 5 0))
-
--- the facts of a row: its type is 1 to 2^32-1, its rule is one of the five, its mark is 0 or 6
-unfoldable pub sound : Row → Bool
-sound r = leb 1 (r .typ) && leb (r .typ) 4294967295 && leb (r .rule) whole && (eqb (r .mark) 0 || eqb (r .mark) 6)
-
--- orders run 1, 2, 3 .. within a parent, whose rows stand together: p and o are parent and order of the row before
-unfoldable pub ordered : ℕ → ℕ → List Row → Bool
-ordered p o [] = true
-ordered p o (r ∷ rs) =
-    pick (eqb (r .parent) p) (eqb (r .order) (o + 1)) (ltb p (r .parent) && eqb (r .order) 1) && ordered (r .parent) (r .order) rs
-
--- each type stands once in a parent
-unfoldable pub once : List Row → Bool
-once [] = true
-once (r ∷ rs) = eqb (rowOf (r .parent) (r .typ) rs .order) 0 && once rs
-
--- every row is sound
-unfoldable pub allSound : List Row → Bool
-allSound [] = true
-allSound (r ∷ rs) = sound r && allSound rs
-
--- the table's facts, as one test over the whole of it
-pub facts : (allSound table && ordered outer 0 table && once table) ≡ true
-unfolding table sound allSound ordered once rowOf pick
-facts = refl

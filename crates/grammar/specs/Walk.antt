@@ -1,15 +1,12 @@
 -- The verdict on one element, and the walk over all elements of a parent, over a list of bytes.
 -- Assumes nothing.
-use Prim.Native.Nat.{ℕ, _-_}
-use mathlib.Core.Bool.{Bool, true, false}
-use mathlib.Core.List.{List, [], _∷_, map}
+use Prim.Native.Nat.{ℕ}
+use mathlib.Core.List.{List, [], _∷_}
 use lib.ListN.{length, set, replicate}
 use lib.Dec.{leb, eqb}
 use Rattle.laws.specs.Pick.{pick}
 use Rattle.wire.specs.Element.{Split, elements, ended}
 use Rattle.grammar.specs.declared.Row.{Row}
-use Rattle.grammar.specs.declared.Place.{Place}
-use Rattle.grammar.specs.declared.Found.{Found}
 use Rattle.grammar.specs.declared.Verdict.{Verdict}
 use Rattle.grammar.specs.Table.{table, rowOf, fits, other}
 
@@ -85,12 +82,3 @@ walkedFrom p f e = pick (ended e) (metAll p f (e .items)) brokenFields
 unfoldable pub walked : ℕ → List ℕ → Fields
 unfolding pick table rowOf fits other markedBy known unknown judged met metAll walkedFrom noFields brokenFields ended elements
 walked p l = walkedFrom p noFields (elements item l)
-
--- where a value stands in a parent of n bytes: at 0 where there is none
-unfoldable pub placeIn : ℕ → Field → Place
-placeIn n absent = record { at = 0; len = 0 }
-placeIn n (here v k) = record { at = n - k - length v; len = length v }
-
--- the places of what was said
-unfoldable pub foundIn : ℕ → Fields → Found
-foundIn n f = record { said = f .said; last = f .last; places = map (placeIn n) (f .vals) }

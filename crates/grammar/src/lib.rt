@@ -6,8 +6,10 @@ use wire::Element;
 use wire::Read;
 ghost use mathlib.Core.Path.{_≡_};
 ghost use lib.ListN.{length};
-ghost use Rattle.grammar.specs.Table.{table, start, rowOf, fits, other};
-ghost use Rattle.grammar.specs.Walk.{markedBy, judged, walked, foundIn};
+ghost use Rattle.grammar.specs.Table.{table, rowOf, fits, other};
+ghost use Rattle.grammar.specs.Places.Table.{start};
+ghost use Rattle.grammar.specs.Walk.{markedBy, judged, walked};
+ghost use Rattle.grammar.specs.Places.Walk.{foundIn};
 
 // A known element: its type, the parent that it stands in, its place in the order there, the rule of its length, and its mark: 6
 // where a packet that holds it is unsupported, else 0.

@@ -10,7 +10,7 @@ use wire::Put;
 use wire::Read;
 ghost use Prim.Native.Nat.{_≤_, _<_};
 ghost use lib.ListN.{length};
-ghost use Rattle.groundout.specs.Group.{FieldIn, Ahead};
+ghost use Rattle.groundout.specs.Places.Group.{FieldIn, Ahead};
 
 // Where a field's bytes stand, or that there is none.
 enum Field {

@@ -8,10 +8,10 @@ use native.Mathlib.Omega.{arith}
 use native.Mathlib.Nat.{eq-or-lt-of-le}
 use lib.ListN.{length, length-append}
 use lib.Seq.{sets, length-sets}
-use Rattle.laws.specs.Writes.{sets-append, sets-out}
+use Rattle.laws.specs.Laws.Writes.{sets-append, sets-out}
 use Rattle.faces.specs.Set.{withoutFace, lowestOf}
 use Rattle.faces.specs.Slots.{facesIn}
-use Rattle.faces.specs.SlotLaws.{lowest-less, held-more, held-end}
+use Rattle.faces.specs.Laws.Slot.{lowest-less, held-more, held-end}
 use Rattle.happenings.specs.Noted.{noteOf, Notes}
 
 module _ (most : ℕ) where

@@ -7,8 +7,8 @@ use mathlib.Core.List.{List, [], _∷_, _++_, map}
 use mathlib.Core.Option.{some}
 use lib.ListN.{length, drop, getElem?}
 use native.Mathlib.Omega.{arith}
-use Rattle.laws.specs.Pick.{pick-ind}
-use Rattle.laws.specs.Tab.{onAt, without, indexOf}
+use Rattle.laws.specs.Laws.Pick.{pick-ind}
+use Rattle.laws.specs.Lists.{onAt, without, indexOf}
 use Rattle.records.specs.Slots.{only}
 use Rattle.history.specs.Every.{All, nothing, both, all-mono, all-only, all-without, all-in, at-in, all-onAt, all-map, all-snoc}
 

@@ -6,7 +6,7 @@ use mathlib.Core.List.{List, []}
 use Rattle.packets.specs.Header.{Came, headerRead}
 use Rattle.packets.specs.Header as header
 use Rattle.packets.specs.Meaning.{Heard, asks, brings, nacks, meant, heard}
-use Rattle.packets.specs.Shape.{heard-bare}
+use Rattle.packets.specs.Laws.Shape.{heard-bare}
 use Rattle.rules.specs.Node.{packet, Event}
 use Rattle.history.specs.Becomes.{HoldsInterest, HoldsData, HoldsNack, asked, brought, denied}
 

@@ -10,20 +10,21 @@ use lib.Dec.{leb, eqb}
 use borrow.Author.Tests.{ltb-true, ltb-false, leb-true, leb-false, not-false}
 use Rattle.answers.specs.declared.Answer.{Answer}
 use Rattle.answers.specs.Number.{numberOf}
-use Rattle.laws.specs.Pick.{pick-ind}
-use Rattle.laws.specs.Tab.{onAt, without}
+use Rattle.laws.specs.Laws.Pick.{pick-ind}
+use Rattle.laws.specs.Lists.{onAt, without}
 use Rattle.names.specs.declared.component.Counted.{Counted}
 use Rattle.names.specs.Name.{counted}
 use Rattle.grammar.specs.Walk.{Fields}
 use Rattle.packets.specs.Header.{Bare, Came, headerRead, val}
 use Rattle.packets.specs.Header as header
-use Rattle.packets.specs.Bare.{Reading, hopIn, bareRead}
+use Rattle.packets.specs.Bare.{Reading, bareRead}
+use Rattle.packets.specs.Places.Bare.{hopIn}
 use Rattle.packets.specs.Bare as read
 use Rattle.packets.specs.Meaning.{Ask, Offer, askOf, offerOf}
 use Rattle.writing.specs.Written.{lowered}
 use Rattle.records.specs.Class.{classOf, isClass}
 use Rattle.records.specs.Slots.{setSlot, Held, only, isEmpty, atPlace}
-use Rattle.names.specs.SameLaws.{both}
+use Rattle.names.specs.Laws.Same.{both}
 use Rattle.records.specs.Face.{isFace, isOpen, isLocalFace}
 use Rattle.records.specs.Route.{Route, routeOf, withClass, newRoute, withHop, longest}
 use Rattle.records.specs.Entry.{Entry, matches, withNack}

@@ -8,16 +8,16 @@ use mathlib.Core.Option.{Option, none, some}
 use lib.ListN.{length, length-map, length-set}
 use native.Mathlib.Omega.{arith}
 use Rattle.answers.specs.declared.Answer.{Answer}
-use Rattle.laws.specs.Pick.{pick-ind}
+use Rattle.laws.specs.Laws.Pick.{pick-ind}
 use Rattle.packets.specs.declared.bare.Hop.{Hop}
 use Rattle.packets.specs.Header.{val}
-use Rattle.packets.specs.Bare.{hopIn}
+use Rattle.packets.specs.Places.Bare.{hopIn}
 use Rattle.packets.specs.Meaning.{Ask}
 use Rattle.writing.specs.Written.{lowered}
-use Rattle.writing.specs.Size.{nack-size}
+use Rattle.writing.specs.Laws.Size.{nack-size}
 use Rattle.records.specs.Class.{Class}
 use Rattle.records.specs.Slots.{Held, held}
-use Rattle.records.specs.EachLaws.{only-length, held-length}
+use Rattle.records.specs.Laws.Each.{only-length, held-length}
 use Rattle.records.specs.Face.{isPeer}
 use Rattle.records.specs.Entry.{Request, Entry, withSent, withNack}
 use Rattle.rules.specs.Node.{Node, What, Event}

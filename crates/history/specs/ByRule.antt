@@ -6,7 +6,7 @@ use mathlib.Core.Bool.{false}
 use mathlib.Core.List.{List, [], _∷_, _++_}
 use mathlib.Core.Option.{Option, none, some}
 use Rattle.answers.specs.declared.Answer.{Answer}
-use Rattle.laws.specs.Tab.{onAt, without}
+use Rattle.laws.specs.Lists.{onAt, without}
 use Rattle.packets.specs.Bare as bare
 use Rattle.packets.specs.Meaning.{Ask, Offer}
 use Rattle.records.specs.Class.{Class, classOf}

@@ -9,10 +9,11 @@ use mathlib.Core.Logic.{_⊎_, inl, inr}
 use mathlib.Core.Option.{Option, none, some}
 use lib.ListN.{length}
 use native.Mathlib.Omega.{arith}
-use Rattle.laws.specs.Pick.{pick, pick-ind}
-use Rattle.laws.specs.Tab.{indexOf, onAt, without}
+use Rattle.laws.specs.Pick.{pick}
+use Rattle.laws.specs.Laws.Pick.{pick-ind}
+use Rattle.laws.specs.Lists.{indexOf, onAt, without}
 use Rattle.names.specs.Name.{sameBytes, prefixOf}
-use Rattle.names.specs.SameLaws.{same-refl, same-equal}
+use Rattle.names.specs.Laws.Same.{same-refl, same-equal}
 use Rattle.records.specs.Class.{Class, classOf, isClass}
 use Rattle.records.specs.Route.{Route, routeOf, withClass, newRoute, withHop, longer, longest}
 use Rattle.records.specs.Entry.{Entry, withRequests, withSent, agedEntry, withNack}

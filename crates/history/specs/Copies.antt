@@ -9,7 +9,8 @@ use mathlib.Core.Option.{some}
 use lib.ListN.{length}
 use native.Mathlib.Omega.{arith}
 use native.Mathlib.Nat.{eq-or-lt-of-le}
-use Rattle.laws.specs.Pick.{pick, pick-ind}
+use Rattle.laws.specs.Pick.{pick}
+use Rattle.laws.specs.Laws.Pick.{pick-ind}
 use Rattle.records.specs.Slots.{slot, isSome, only}
 use Rattle.records.specs.Entry.{Request, Entry}
 use Rattle.rules.specs.Node.{Node}

@@ -10,8 +10,9 @@ use native.Mathlib.Nat.{add-zero}
 use lib.ListN.{length, getD, set, replicate, length-replicate}
 use lib.Dec.{eqb}
 use borrow.Author.Tests.{eqb-true, ne-eqb}
-use Rattle.laws.specs.Pick.{pick, pick-ind}
-use Rattle.laws.specs.Tab.{onAt, without}
+use Rattle.laws.specs.Pick.{pick}
+use Rattle.laws.specs.Laws.Pick.{pick-ind}
+use Rattle.laws.specs.Lists.{onAt, without}
 use Rattle.records.specs.Slots.{noSlots, slot, setSlot, isSome, Held, heldFrom, anyOf, only, isEmpty}
 use Rattle.records.specs.Face.{Face, isPeer}
 use Rattle.records.specs.Entry.{Request, isLive, ifLive}

@@ -10,9 +10,9 @@ use lib.Dec.{eqb}
 use borrow.Author.Tests.{ltb-false, eqb-true, not-true}
 use native.Mathlib.Omega.{arith}
 use Rattle.answers.specs.declared.Answer.{Answer}
-use Rattle.laws.specs.Pick.{pick-ind}
+use Rattle.laws.specs.Laws.Pick.{pick-ind}
 use Rattle.names.specs.Name.{prefixOf}
-use Rattle.names.specs.SameLaws as names
+use Rattle.names.specs.Laws.Same as names
 use Rattle.packets.specs.Meaning.{Ask, Offer, asks, brings, nacks}
 use Rattle.writing.specs.Written.{nackBytes}
 use Rattle.records.specs.Slots.{slot, isSome, Held, held, only, each, atPlace}

@@ -7,8 +7,9 @@ use mathlib.Core.List.{List, [], _∷_, _++_, map}
 use mathlib.Core.Option.{none, some}
 use lib.ListN.{drop, getElem?}
 use native.Mathlib.Omega.{arith}
-use Rattle.laws.specs.Pick.{pick, pick-ind}
-use Rattle.laws.specs.Tab.{onAt, without}
+use Rattle.laws.specs.Pick.{pick}
+use Rattle.laws.specs.Laws.Pick.{pick-ind}
+use Rattle.laws.specs.Lists.{onAt, without}
 use Rattle.records.specs.Slots.{only, each}
 
 -- nothing is no thing

@@ -10,9 +10,10 @@ use lib.ListN.{length, getD, set, length-set, length-replicate}
 use lib.Dec.{ltb, eqb}
 use native.Mathlib.Omega.{arith}
 use lib.Seq.{getD-set-same, getD-set-other}
-use Rattle.laws.specs.Rows.{replicate-keeps}
+use Rattle.laws.specs.Laws.Rows.{replicate-keeps}
 use borrow.Author.Tests.{eqb-true, eqb-false}
-use Rattle.laws.specs.Pick.{pick, pick-ind, pick-ap}
+use Rattle.laws.specs.Pick.{pick}
+use Rattle.laws.specs.Laws.Pick.{pick-ind, pick-ap}
 use Rattle.records.specs.Slots.{noSlots, slot, setSlot, isEmpty, isSome, Held, heldFrom, held}
 use Rattle.records.specs.Route.{lessBy, leastBy}
 use Rattle.history.specs.Every.{not-none, All, nothing, both, here, there, In, all-mono}

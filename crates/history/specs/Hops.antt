@@ -5,7 +5,7 @@ use mathlib.Core.Path.{_≡_, refl, sym, _∙_}
 use mathlib.Core.Bool.{Bool, true, not}
 use mathlib.Core.List.{List, [], _∷_}
 use mathlib.Core.Option.{Option, none, some}
-use Rattle.laws.specs.Pick.{pick-ind}
+use Rattle.laws.specs.Laws.Pick.{pick-ind}
 use Rattle.records.specs.Slots.{slot, isSome, Held, held, only}
 use Rattle.records.specs.Route.{Route, longest, leastBy}
 use Rattle.records.specs.Entry.{Entry}

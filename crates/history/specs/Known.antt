@@ -7,10 +7,10 @@ use mathlib.Core.List.{List, [], _∷_}
 use mathlib.Core.Option.{none, some}
 use lib.ListN.{length}
 use native.Mathlib.Omega.{arith}
-use Rattle.laws.specs.Pick.{pick-ind}
-use Rattle.laws.specs.Tab.{onAt, indexOf}
+use Rattle.laws.specs.Laws.Pick.{pick-ind}
+use Rattle.laws.specs.Lists.{onAt, indexOf}
 use Rattle.names.specs.Name.{sameBytes}
-use Rattle.names.specs.SameLaws.{both, same-refl, same-equal}
+use Rattle.names.specs.Laws.Same.{both, same-refl, same-equal}
 use Rattle.packets.specs.Meaning.{Ask}
 use Rattle.records.specs.Entry.{Entry, isKnown}
 use Rattle.rules.specs.Node.{Node}

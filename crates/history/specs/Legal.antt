@@ -13,7 +13,7 @@ use mathlib.Core.Bool.{Bool, true, false, _||_, not, false≢true}
 use mathlib.Core.List.{List, [], _∷_, _++_}
 use native.Mathlib.Omega.{arith}
 use lib.Dec.{eqb}
-use Rattle.names.specs.SameLaws.{both}
+use Rattle.names.specs.Laws.Same.{both}
 use Rattle.records.specs.Slots.{Held, held, anyOf}
 use Rattle.records.specs.Entry.{Request, Entry, isKnown}
 use Rattle.rules.specs.Node.{Node, Event, emptyNode}

@@ -8,7 +8,7 @@ use mathlib.Core.Option.{some}
 use lib.ListN.{getElem?}
 use Rattle.records.specs.Slots.{atPlace}
 use Rattle.records.specs.Stored.{Stored, serves, Hit, lookup}
-use Rattle.records.specs.LookupLaws as records
+use Rattle.records.specs.Laws.Lookup as records
 
 -- the element at a place is the one that the library gives
 element-at : {A : Type 0} (i : ℕ) (l : List A) → getElem? l i ≡ atPlace i l

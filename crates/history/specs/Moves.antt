@@ -10,8 +10,9 @@ use native.Mathlib.Nat.{add-zero}
 use lib.ListN.{length}
 use lib.Dec.{eqb}
 use borrow.Author.Tests.{not-true}
-use Rattle.laws.specs.Pick.{pick, pick-ind}
-use Rattle.laws.specs.Tab.{onAt, without}
+use Rattle.laws.specs.Pick.{pick}
+use Rattle.laws.specs.Laws.Pick.{pick-ind}
+use Rattle.laws.specs.Lists.{onAt, without}
 use Rattle.packets.specs.Meaning.{Offer}
 use Rattle.records.specs.Class.{Class}
 use Rattle.records.specs.Slots.{slot, setSlot, isSome, Held, heldFrom, held, only, each, atPlace}

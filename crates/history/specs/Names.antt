@@ -6,7 +6,8 @@ use mathlib.Core.List.{List}
 use lib.ListN.{length}
 use lib.Dec.{ltb}
 use borrow.Author.Tests.{ltb-false}
-use Rattle.laws.specs.Pick.{pick, pick-ind}
+use Rattle.laws.specs.Pick.{pick}
+use Rattle.laws.specs.Laws.Pick.{pick-ind}
 use Rattle.answers.specs.declared.Answer.{Answer}
 use Rattle.wire.specs.Element.{Elem, bad, elem, element, onward}
 use Rattle.names.specs.declared.component.Counted.{Counted}
@@ -17,7 +18,7 @@ use Rattle.packets.specs.declared.header.Nacked.{Nacked}
 use Rattle.packets.specs.Header.{val, bytesIn}
 use Rattle.packets.specs.Bare.{Reading, refused, asks, brings, nacks, askedBy, sized, namedInterest, interestRead, namedData, dataRead, dataValue, dataUnless, kindRead, bareRead}
 use Rattle.packets.specs.Meaning.{askOf, offerOf}
-use Rattle.packets.specs.Shape.{Well, asks-made, bare-short}
+use Rattle.packets.specs.Laws.Shape.{Well, asks-made, bare-short}
 use Rattle.history.specs.Becomes.{HoldsInterest, HoldsData, asked, brought}
 
 -- what is read as a Data has a short name

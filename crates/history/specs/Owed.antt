@@ -11,10 +11,11 @@ use lib.Dec.{ltb}
 use borrow.Author.Tests.{ltb-true}
 use native.Mathlib.Omega.{arith}
 use Rattle.answers.specs.declared.Answer.{Answer}
-use Rattle.laws.specs.Pick.{pick, pick-ind}
+use Rattle.laws.specs.Pick.{pick}
+use Rattle.laws.specs.Laws.Pick.{pick-ind}
 use Rattle.names.specs.Name.{sameBytes, prefixOf}
-use Rattle.names.specs.SameLaws.{same-equal}
-use Rattle.names.specs.SameLaws as names
+use Rattle.names.specs.Laws.Same.{same-equal}
+use Rattle.names.specs.Laws.Same as names
 use Rattle.packets.specs.Meaning.{Ask, Offer, asks, brings}
 use Rattle.records.specs.Class.{Class}
 use Rattle.records.specs.Slots.{slot, Held, heldFrom, held, only}

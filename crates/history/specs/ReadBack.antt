@@ -10,23 +10,24 @@ use mathlib.Core.Option.{Option, none, some}
 use lib.ListN.{length, getD, List·getD-map}
 use lib.Dec.{ltb, eqb}
 use Rattle.answers.specs.declared.Answer.{Answer}
-use Rattle.laws.specs.Pick.{pick, pick-ind}
-use Rattle.laws.specs.Rows.{set-keeps, replicate-keeps}
-use Rattle.laws.specs.Tab.{onAt}
-use Rattle.wire.specs.Bytes.{Bytes}
+use Rattle.laws.specs.Pick.{pick}
+use Rattle.laws.specs.Laws.Pick.{pick-ind}
+use Rattle.laws.specs.Laws.Rows.{set-keeps, replicate-keeps}
+use Rattle.laws.specs.Lists.{onAt}
+use Rattle.wire.specs.Laws.Bytes.{Bytes}
 use Rattle.wire.specs.Element.{Elem, bad, elem, element, onward}
-use Rattle.wire.specs.Within.{value-bytes}
+use Rattle.wire.specs.Laws.Within.{value-bytes}
 use Rattle.grammar.specs.Table.{table, rowOf, outer, lp, nack}
 use Rattle.grammar.specs.Walk.{Field, absent, here, Fields, walked}
-use Rattle.grammar.specs.WalkLaws.{FieldIn, walked-in, field-bytes}
+use Rattle.grammar.specs.Laws.Walk.{FieldIn, walked-in, field-bytes}
 use Rattle.packets.specs.declared.header.Nacked.{Nacked}
 use Rattle.packets.specs.Header.{val, bytesIn, Came, bare, nackedBy, fragmentRead, lpFields, lpRead, outerRead, headerRead}
 use Rattle.packets.specs.Header as header
 use Rattle.packets.specs.Meaning.{Ask, Offer, asks, brings, nacks, askOf, heard, cameMeans}
-use Rattle.packets.specs.Shape.{heard-is, asks-made, nonce-below}
-use Rattle.writing.specs.InterestBack.{lower, asks-back}
-use Rattle.writing.specs.BareBack.{data-back}
-use Rattle.writing.specs.NackBack.{request, nack-back}
+use Rattle.packets.specs.Laws.Shape.{heard-is, asks-made, nonce-below}
+use Rattle.writing.specs.Laws.InterestBack.{lower, asks-back}
+use Rattle.writing.specs.Laws.BareBack.{data-back}
+use Rattle.writing.specs.Laws.NackBack.{request, nack-back}
 use Rattle.records.specs.Class.{Class}
 use Rattle.records.specs.Slots.{noSlots, slot, setSlot, atPlace}
 use Rattle.records.specs.Face.{Face, isPeer}

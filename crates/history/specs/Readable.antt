@@ -9,11 +9,11 @@ use mathlib.Core.Option.{Option, none, some}
 use lib.ListN.{length, getElem?}
 use lib.Seq.{append-snoc}
 use Rattle.answers.specs.declared.Answer.{Answer}
-use Rattle.laws.specs.Pick.{pick-ind}
+use Rattle.laws.specs.Laws.Pick.{pick-ind}
 use Rattle.packets.specs.Header.{val}
-use Rattle.packets.specs.Bare.{hopIn}
+use Rattle.packets.specs.Places.Bare.{hopIn}
 use Rattle.packets.specs.Meaning.{Offer, brings}
-use Rattle.packets.specs.Shape.{Well}
+use Rattle.packets.specs.Laws.Shape.{Well}
 use Rattle.writing.specs.Written.{nackBytes, lowered}
 use Rattle.records.specs.Class.{Class}
 use Rattle.records.specs.Slots.{slot, held}

@@ -11,7 +11,8 @@ use lib.Dec.{eqb}
 use borrow.Author.Tests.{eqb-true, ne-eqb}
 use native.Mathlib.Omega.{arith}
 use Rattle.answers.specs.declared.Answer.{Answer}
-use Rattle.laws.specs.Pick.{pick, pick-ind}
+use Rattle.laws.specs.Pick.{pick}
+use Rattle.laws.specs.Laws.Pick.{pick-ind}
 use Rattle.packets.specs.Meaning.{Ask}
 use Rattle.records.specs.Class.{Class}
 use Rattle.records.specs.Slots.{Held, heldFrom, held, only, each}

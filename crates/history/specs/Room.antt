@@ -6,8 +6,9 @@ use mathlib.Core.Bool.{Bool, true, false}
 use mathlib.Core.List.{List, [], _∷_, map}
 use lib.ListN.{length}
 use native.Mathlib.Omega.{arith}
-use Rattle.laws.specs.Pick.{pick, pick-ind}
-use Rattle.laws.specs.Tab.{onAt, without}
+use Rattle.laws.specs.Pick.{pick}
+use Rattle.laws.specs.Laws.Pick.{pick-ind}
+use Rattle.laws.specs.Lists.{onAt, without}
 use Rattle.records.specs.Class.{Class}
 use Rattle.records.specs.Slots.{only}
 use Rattle.records.specs.Entry.{Entry, usedBy, isAlarm, isMonitoring, isBulk, isOther, roomTaken}

@@ -5,7 +5,7 @@ use mathlib.Core.Bool.{Bool, true, _&&_, Bool·beq, false≢true}
 use lib.Dec.{eqb}
 use borrow.Author.Tests.{eqb-true, eq-eqb}
 use Rattle.names.specs.Name.{sameBytes}
-use Rattle.names.specs.SameLaws.{both, same-equal, same-refl}
+use Rattle.names.specs.Laws.Same.{both, same-equal, same-refl}
 use Rattle.records.specs.Class.{Class, alarm, monitoring, bulk, noClass, classNumber, isClass}
 use Rattle.history.specs.Known.{flag-equal, flag-refl}
 use Rattle.history.specs.Key.{keyOf, like}

@@ -8,7 +8,7 @@ use mathlib.Core.List.{List}
 use mathlib.Core.Option.{Option, some}
 use lib.ListN.{length}
 use native.Mathlib.Omega.{arith}
-use Rattle.packets.specs.Shape.{Well}
+use Rattle.packets.specs.Laws.Shape.{Well}
 use Rattle.records.specs.Slots.{slot, isSome, each}
 use Rattle.records.specs.Face.{Face, isOpen}
 use Rattle.records.specs.Route.{Route}
@@ -17,7 +17,7 @@ use Rattle.records.specs.Stored.{Stored}
 use Rattle.rules.specs.Node.{Node, mostRoutes, mostEntries, mostStored, mostDead}
 use Rattle.history.specs.Every.{All}
 use Rattle.history.specs.Apart.{Apart}
-use Rattle.records.specs.UseLaws.{entries-most}
+use Rattle.records.specs.Laws.Use.{entries-most}
 
 -- what is kept for a face is kept for an open one
 abbrev pub AtOpen : {A : Type 0} → List (Option Face) → List (Option A) → Type 0

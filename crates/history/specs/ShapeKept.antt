@@ -10,11 +10,12 @@ use lib.ListN.{length, getElem?}
 use Rattle.answers.specs.declared.Answer.{Answer}
 use borrow.Author.Tests.{ltb-false}
 use native.Mathlib.Omega.{arith}
-use Rattle.laws.specs.Pick.{pick, pick-ind}
-use Rattle.laws.specs.Tab.{onAt, without}
-use Rattle.names.specs.SameLaws as names
+use Rattle.laws.specs.Pick.{pick}
+use Rattle.laws.specs.Laws.Pick.{pick-ind}
+use Rattle.laws.specs.Lists.{onAt, without}
+use Rattle.names.specs.Laws.Same as names
 use Rattle.packets.specs.Meaning.{Ask, Offer}
-use Rattle.packets.specs.Shape.{Well}
+use Rattle.packets.specs.Laws.Shape.{Well}
 use Rattle.records.specs.Slots.{setSlot, only, atPlace}
 use Rattle.records.specs.Face.{Face, isOpen}
 use Rattle.records.specs.Class.{Class, classOf}

@@ -10,7 +10,7 @@ use Rattle.answers.specs.Number.{numberOf}
 use Rattle.rules.specs.Node.{Node, emptyNode, What, packet, clock, openFace, setRoute, addHop, Event}
 use Rattle.rules.specs.Outcome.{Outcome, quiet}
 use Rattle.rules.specs.Step.{step, outcomes, history}
-use Rattle.rules.specs.Compute.{computed}
+use Rattle.rules.specs.Laws.Compute.{computed}
 use Rattle.history.specs.Key.{counted, ofFace, keyOf, isFate}
 use Rattle.history.specs.Count.{howMany}
 use Rattle.records.specs.Happening.{opened, fateNumber}

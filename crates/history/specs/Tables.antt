@@ -11,12 +11,13 @@ use lib.Seq.{getD-set-other}
 use lib.Dec.{ltb}
 use borrow.Author.Tests.{ltb-true, not-true}
 use native.Mathlib.Omega.{arith}
-use Rattle.laws.specs.Pick.{pick-ind}
-use Rattle.laws.specs.Rows.{set-keeps}
-use Rattle.laws.specs.Tab.{onAt, without, indexOf, length-onAt, length-without}
+use Rattle.laws.specs.Laws.Pick.{pick-ind}
+use Rattle.laws.specs.Laws.Rows.{set-keeps}
+use Rattle.laws.specs.Lists.{onAt, without, indexOf}
+use Rattle.laws.specs.Laws.Tab.{length-onAt, length-without}
 use Rattle.names.specs.Name.{sameBytes}
-use Rattle.names.specs.SameLaws.{same-equal, same-not}
-use Rattle.packets.specs.Shape.{Well}
+use Rattle.names.specs.Laws.Same.{same-equal, same-not}
+use Rattle.packets.specs.Laws.Shape.{Well}
 use Rattle.records.specs.Class.{Class}
 use Rattle.records.specs.Slots.{noSlots, slot, setSlot, isSome, only, each, atPlace}
 use Rattle.records.specs.Face.{Face, isOpen, isPeer}

@@ -1,7 +1,5 @@
 pub mod Pick
-pub mod Loop
-pub mod Rows
-pub mod Tab
 pub mod Digits
-pub mod Writes
-pub mod Any
+pub mod Lists
+pub mod Places
+pub mod Laws

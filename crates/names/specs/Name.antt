@@ -5,7 +5,7 @@ use mathlib.Core.Bool.{Bool, true, false, _&&_, _||_}
 use mathlib.Core.List.{List, [], _∷_}
 use lib.ListN.{length, take}
 use lib.Dec.{ltb, eqb}
-use Rattle.laws.specs.Any.{anyOf}
+use Rattle.laws.specs.Lists.{anyOf}
 use Rattle.laws.specs.Pick.{pick}
 use Rattle.wire.specs.Element.{element, onward, Split, atMost, elements, ended}
 use Rattle.names.specs.declared.component.Counted.{Counted}

@@ -1,14 +1,12 @@
 -- Document 01, "Data, store, Nack": "canonical order (component type, length, bytes; a prefix first)".
 -- Assumes nothing.
 use Prim.Native.Nat.{ℕ}
-use mathlib.Core.Bool.{Bool, true, false}
 use mathlib.Core.List.{List, [], _∷_}
-use lib.ListN.{length, take, drop}
+use lib.ListN.{length}
 use lib.Dec.{ltb}
 use Rattle.laws.specs.Pick.{pick}
-use Rattle.wire.specs.declared.read.Element.{Element}
 use Rattle.names.specs.declared.order.Order.{Order}
-use Rattle.names.specs.Name.{Component, component, components}
+use Rattle.names.specs.Name.{Component, components}
 
 -- the smaller number first, and by o where they are equal
 unfoldable pub byNumber : ℕ → ℕ → Order → Order
@@ -44,7 +42,3 @@ canonical (c ∷ cs) (d ∷ ds) = andThen (componentOrder c d) (canonical cs ds)
 unfoldable pub canonicalOrder : List ℕ → List ℕ → Order
 unfolding components componentOrder andThen canonical
 canonicalOrder a b = canonical (components a .items) (components b .items)
-
--- the component that stands at a place of a name
-abbrev pub componentAt : List ℕ → Element → Component
-componentAt s e = component (e .typ) (take (e .len) (drop (e .at) s)) []

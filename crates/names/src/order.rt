@@ -6,7 +6,8 @@ ghost use mathlib.Core.Path.{_≡_};
 ghost use Prim.Native.Nat.{_+_, _≤_};
 ghost use lib.ListN.{length};
 ghost use Rattle.names.specs.Name.{sameBytes, prefixOf};
-ghost use Rattle.names.specs.Order.{lexical, componentOrder, componentAt, canonicalOrder};
+ghost use Rattle.names.specs.Order.{lexical, componentOrder, canonicalOrder};
+ghost use Rattle.names.specs.Places.Order.{componentAt};
 
 // Which of two comes first.
 pub enum Order {

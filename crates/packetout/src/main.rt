@@ -10,7 +10,7 @@ use packets::Packet;
 use tape::TapeNumber;
 ghost use Prim.Native.Nat.{_+_, _≤_, _<_};
 ghost use lib.ListN.{length};
-ghost use Rattle.packetout.specs.Group.{GroupIn};
+ghost use Rattle.packetout.specs.Places.Group.{GroupIn};
 
 // Where a packet stands, or that the group is unreadable.
 enum Group {

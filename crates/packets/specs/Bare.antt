@@ -1,8 +1,8 @@
 -- Document 01, "Reading packets": the bare Interest or Data, over a list of bytes.
 -- Assumes nothing.
-use Prim.Native.Nat.{ℕ, _-_}
-use mathlib.Core.Bool.{Bool, true, false}
-use mathlib.Core.List.{List, []}
+use Prim.Native.Nat.{ℕ}
+use mathlib.Core.Bool.{Bool}
+use mathlib.Core.List.{List}
 use lib.ListN.{length}
 use lib.Dec.{ltb, eqb}
 use Rattle.laws.specs.Pick.{pick}
@@ -10,15 +10,10 @@ use Rattle.wire.specs.Element.{element, onward}
 use Rattle.answers.specs.declared.Answer.{Answer}
 use Rattle.names.specs.declared.component.Counted.{Counted}
 use Rattle.names.specs.Name.{counted}
-use Rattle.grammar.specs.declared.Place.{Place}
 use Rattle.grammar.specs.Table.{table, rowOf, interest, dat, meta, fragment}
-use Rattle.grammar.specs.Walk.{Field, absent, here, Fields, walked, placeIn}
+use Rattle.grammar.specs.Walk.{Field, absent, here, Fields, walked}
 use Rattle.packets.specs.declared.header.Nacked.{Nacked}
-use Rattle.packets.specs.declared.bare.Hop.{Hop}
-use Rattle.packets.specs.declared.bare.Interest.{Interest}
-use Rattle.packets.specs.declared.bare.Data.{Data}
-use Rattle.packets.specs.declared.bare.Packet.{Packet}
-use Rattle.packets.specs.Header.{val, bytesIn, missing, present, wholeNumber}
+use Rattle.packets.specs.Header.{val, bytesIn, missing, wholeNumber}
 
 -- what a bare packet is: a refusal; an Interest's elements; a Data's elements and those of its MetaInfo; or a Nack's reason and Interest
 pub data Reading : Type 0 where
@@ -101,27 +96,3 @@ lifetimeOf (here v k) = capped 60000 (wholeNumber v)
 -- "A FreshnessPeriod above 86,400,000 counts as that, absent as 0."
 unfoldable pub freshnessOf : Field → ℕ
 freshnessOf x = capped 86400000 (wholeNumber (bytesIn x))
-
--- the HopLimit and its place in a packet of n bytes
-unfoldable pub hopIn : ℕ → Field → Hop
-hopIn n absent = Hop.Absent
-hopIn n (here v k) = Hop.Limit (wholeNumber v) (n - k - length v)
-
--- an Interest with its places in a packet of n bytes
-unfoldable pub interestIn : ℕ → Fields → Interest
-interestIn n f = record {
-  name = placeIn n (val f 1);
-  «can_be_prefix» = present (val f 2);
-  «must_be_fresh» = present (val f 3);
-  nonce = wholeNumber (bytesIn (val f 5));
-  lifetime = lifetimeOf (val f 6);
-  hop = hopIn n (val f 7);
-}
-
--- a packet with its places in n bytes
-unfoldable pub packetIn : ℕ → Reading → Packet
-unfolding placeIn capped lifetimeOf freshnessOf hopIn interestIn
-packetIn n (refused a) = Packet.Refused a
-packetIn n (asks f) = Packet.Interest (interestIn n f)
-packetIn n (brings f g) = Packet.Data (record { name = placeIn n (val f 1); freshness = freshnessOf (val g 2) })
-packetIn n (nacks r f) = Packet.Nack r (interestIn n f)

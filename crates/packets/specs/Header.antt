@@ -1,21 +1,17 @@
 -- Document 01, "Reading packets": what came is a bare packet, or an LpPacket that holds one, with a Nack or without. Over a list of bytes.
 -- Assumes nothing.
-use Prim.Native.Nat.{ℕ, _+_, _-_}
+use Prim.Native.Nat.{ℕ}
 use mathlib.Core.Bool.{Bool, true, false}
 use mathlib.Core.List.{List, []}
-use lib.ListN.{length, getD, take, drop}
-use lib.Dec.{ltb, leb, eqb}
+use lib.ListN.{length, getD}
+use lib.Dec.{ltb, eqb}
 use Rattle.laws.specs.Pick.{pick}
-use Rattle.wire.specs.Number.{big}
+use Rattle.wire.specs.Number.{big, isWhole}
 use Rattle.wire.specs.Element.{element, onward}
-use Rattle.wire.specs.Place.{isWhole}
 use Rattle.answers.specs.declared.Answer.{Answer}
-use Rattle.grammar.specs.declared.Place.{Place}
 use Rattle.grammar.specs.Table.{table, rowOf, outer, lp, nack}
 use Rattle.grammar.specs.Walk.{Field, absent, here, Fields, walked}
 use Rattle.packets.specs.declared.header.Nacked.{Nacked}
-use Rattle.packets.specs.declared.header.Part.{Part}
-use Rattle.packets.specs.declared.header.Header.{Header}
 
 -- the element of an order
 abbrev pub val : Fields → ℕ → Field
@@ -35,10 +31,6 @@ missing (here v k) = false
 abbrev pub present : Field → Bool
 present absent = false
 present (here v k) = true
-
--- the bytes at a place of l; none where the place does not lie within l
-unfoldable pub partAt : List ℕ → Place → List ℕ
-partAt l p = pick (leb (p .at + p .len) (length l)) (take (p .len) (drop (p .at) l)) []
 
 -- "Whole numbers in elements take 1, 2, 4 or 8 bytes."
 unfoldable pub wholeNumber : List ℕ → ℕ
@@ -91,14 +83,3 @@ unfolding pick onward table rowOf lpRead outerRead
 headerRead l =
     pick (ltb 1500 (length l)) (refused Answer.TooLong)
     (onward (element l) (refused Answer.Malformed) (λ t v r. pick (ltb 0 (length r)) (refused Answer.Malformed) (outerRead t v l)))
-
--- the header with the bare packet's place, in n bytes that begin at base
-unfoldable pub headerFrom : ℕ → ℕ → Came → Header
-headerFrom base n (refused a) = Header.Refused a
-headerFrom base n (bare b) =
-    Header.Bare (record { from = base + (n - b .left - length (b .bytes)); len = length (b .bytes); nack = b .nack; marked = b .marked })
-
--- the header with the bare packet's place in a packet of n bytes
-unfoldable pub headerIn : ℕ → Came → Header
-unfolding headerFrom
-headerIn n c = headerFrom 0 n c

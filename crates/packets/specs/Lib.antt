@@ -2,10 +2,5 @@ pub mod Header
 pub mod Bare
 pub mod Meaning
 pub mod Name
-pub mod Shape
-pub mod NameLaws
-pub mod PartLaws
-pub mod HeaderLaws
-pub mod FindLaws
-pub mod BareLaws
-pub mod View
+pub mod Places
+pub mod Laws

@@ -6,7 +6,7 @@ use mathlib.Core.List.{List}
 use mathlib.Core.Option.{Option, none, some}
 use Rattle.wire.specs.Number.{number}
 use Rattle.wire.specs.Element.{element, elements}
-use Rattle.wire.specs.Place.{isWhole}
+use Rattle.wire.specs.Number.{isWhole}
 use Rattle.names.specs.Name.{counted}
 use Rattle.grammar.specs.Table.{critical, skippedLp, fits, other}
 use Rattle.answers.specs.declared.Answer.{Answer}

@@ -14,9 +14,10 @@ ghost use lib.ListN.{length};
 ghost use Rattle.names.specs.declared.component.Counted.{Counted};
 ghost use Rattle.grammar.specs.Table.{interest, dat};
 ghost use Rattle.grammar.specs.Walk.{walked};
-ghost use Rattle.packets.specs.Bare.{bareRead, interestIn, packetIn};
-ghost use Rattle.packets.specs.BareLaws.{thereAt, movedBy, lifetimeAt, freshnessAt, hopAt, nackedPacket, IsFound};
-ghost use Rattle.packets.specs.BareLaws.{nameSays, namedInterestFrom, interestFrom, NamedDataFrom, dataFrom};
+ghost use Rattle.packets.specs.Bare.{bareRead};
+ghost use Rattle.packets.specs.Places.Bare.{interestIn, packetIn};
+ghost use Rattle.packets.specs.Places.Bare.{thereAt, movedBy, lifetimeAt, freshnessAt, hopAt, nackedPacket, IsFound};
+ghost use Rattle.packets.specs.Places.Bare.{nameSays, namedInterestFrom, interestFrom, NamedDataFrom, dataFrom};
 
 // The HopLimit and its place, or that there is none.
 pub enum Hop {

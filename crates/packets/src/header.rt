@@ -6,8 +6,9 @@ use wire::Read;
 ghost use mathlib.Core.Path.{_≡_};
 ghost use Prim.Native.Nat.{_+_, _^_, _<_};
 ghost use lib.ListN.{length};
-ghost use Rattle.packets.specs.Header.{partAt, wholeNumber, lpRead, headerRead, headerFrom, headerIn};
-ghost use Rattle.packets.specs.HeaderLaws.{nackAt};
+ghost use Rattle.packets.specs.Places.Header.{partAt, headerFrom, headerIn};
+ghost use Rattle.packets.specs.Header.{wholeNumber, lpRead, headerRead};
+ghost use Rattle.packets.specs.Places.Header.{nackAt};
 
 // The reason of a Nack, or that the packet is none.
 pub enum Nacked {

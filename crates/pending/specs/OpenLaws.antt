@@ -9,7 +9,7 @@ use lib.Seq.{sets}
 use lib.Dec.{leb}
 use borrow.Author.Tests.{lt-ltb, le-ltb, le-leb, lt-leb}
 use Rattle.laws.specs.Pick.{pick}
-use Rattle.laws.specs.Writes.{sets-back}
+use Rattle.laws.specs.Laws.Writes.{sets-back}
 use Rattle.records.specs.Entry.{Entry}
 use Rattle.pending.specs.Operations.{fitsTable, Opens}
 

@@ -7,7 +7,7 @@ use mathlib.Core.List.{List, [], _∷_, _++_}
 use lib.ListN.{length, drop}
 use lib.Dec.{ltb, leb}
 use Rattle.laws.specs.Pick.{pick}
-use Rattle.laws.specs.Tab.{onAt, indexOf}
+use Rattle.laws.specs.Lists.{onAt, indexOf}
 use Rattle.records.specs.Class.{classNumber}
 use Rattle.records.specs.Slots.{given, atPlace}
 use Rattle.records.specs.Entry.{Entry, matches, usedBy, isAlarm, isMonitoring, isBulk, isOther}

@@ -10,7 +10,7 @@ use Rattle.laws.specs.Pick.{pick}
 use Rattle.records.specs.Class.{Class, alarm, monitoring, bulk, noClass, classOf}
 use Rattle.records.specs.Slots.{only}
 use Rattle.records.specs.Entry.{Entry, usedBy, isAlarm, isMonitoring, isBulk, isOther, roomTaken}
-use Rattle.records.specs.UseLaws.{used-last, used-all, entries-most}
+use Rattle.records.specs.Laws.Use.{used-last, used-all, entries-most}
 use Rattle.entries.specs.View as entry
 use Rattle.entries.specs.Operations.{bareEntry}
 use Rattle.pending.specs.View.{view, rowAt, view-length, view-last}

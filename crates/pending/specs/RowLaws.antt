@@ -7,7 +7,7 @@ use mathlib.Core.List.{List}
 use lib.ListN.{getD, take}
 use lib.Dec.{eqb}
 use Rattle.names.specs.Name.{sameBytes, prefixOf}
-use Rattle.records.specs.ClassLaws.{class-number}
+use Rattle.records.specs.Laws.Class.{class-number}
 use Rattle.records.specs.Entry.{isKnown, matches}
 use Rattle.entries.specs.View as entry
 use Rattle.pending.specs.Operations.{factsOf}

@@ -12,12 +12,17 @@ use lib.Dec.{ltb}
 use borrow.Author.Tests.{lt-ltb, le-ltb}
 use native.Mathlib.Nat.{zero-add}
 use native.Mathlib.Omega.{arith}
-use Rattle.laws.specs.Pick.{pick, pick-yes, pick-no}
-use Rattle.laws.specs.Loop.{first, turns, first-hit, first-miss}
-use Rattle.laws.specs.Rows.{down, downs-before, downs-moved}
-use Rattle.laws.specs.Tab.{tab, onAt, without, indexOf, length-tab, tab-ext, tab-snoc, tab-at, tab-without, take-tab, drop-tab, drop-most, first-tab, onAt-out}
+use Rattle.laws.specs.Pick.{pick}
+use Rattle.laws.specs.Laws.Pick.{pick-yes, pick-no}
+use Rattle.laws.specs.Places.Loop.{first, turns}
+use Rattle.laws.specs.Laws.Loop.{first-hit, first-miss}
+use Rattle.laws.specs.Places.Rows.{down}
+use Rattle.laws.specs.Laws.Rows.{downs-before, downs-moved}
+use Rattle.laws.specs.Places.Tab.{tab}
+use Rattle.laws.specs.Lists.{onAt, without, indexOf}
+use Rattle.laws.specs.Laws.Tab.{length-tab, tab-ext, tab-snoc, tab-at, tab-without, take-tab, drop-tab, drop-most, first-tab, onAt-out}
 use Rattle.records.specs.Slots.{atPlace, given}
-use Rattle.records.specs.PlaceLaws.{atPlace-tab}
+use Rattle.records.specs.Laws.Place.{atPlace-tab}
 use Rattle.records.specs.Entry.{Entry, matches}
 use Rattle.entries.specs.View as entry
 use Rattle.pending.specs.Operations.{copied, nextMatch}

@@ -15,7 +15,7 @@ ghost use mathlib.Core.List.{List, [], _∷_, _++_};
 ghost use Prim.Native.Nat.{ℕ, _≤_, max};
 ghost use lib.ListN.{length};
 ghost use lib.Dec.{leb, eqb};
-ghost use Rattle.laws.specs.Tab.{without, indexOf};
+ghost use Rattle.laws.specs.Lists.{without, indexOf};
 ghost use Rattle.faces.specs.Set.{mostFaces};
 ghost use Rattle.records.specs.Class.{classOf};
 ghost use Rattle.records.specs.Slots.{given, atPlace};

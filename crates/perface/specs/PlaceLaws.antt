@@ -8,7 +8,8 @@ use native.Mathlib.Omega.{arith}
 use lib.ListN.{getD}
 use borrow.Author.Tests.{lt-ltb, le-ltb}
 use Rattle.laws.specs.Pick.{pick}
-use Rattle.laws.specs.Tab.{onAt, onAt-out}
+use Rattle.laws.specs.Lists.{onAt}
+use Rattle.laws.specs.Laws.Tab.{onAt-out}
 use Rattle.records.specs.Slots.{given, atPlace}
 use Rattle.records.specs.Entry.{Entry}
 use Rattle.entries.specs.View as entry

@@ -13,14 +13,14 @@ ghost use mathlib.Core.Bool.{true, false};
 ghost use mathlib.Core.List.{[]};
 ghost use mathlib.Core.Option.{none};
 ghost use lib.ListN.{length};
-ghost use Rattle.laws.specs.Tab.{onAt};
+ghost use Rattle.laws.specs.Lists.{onAt};
 ghost use Rattle.names.specs.Fingerprint.{fingerprint};
 ghost use Rattle.faces.specs.Set.{mostFaces};
 ghost use Rattle.records.specs.Slots.{given, atPlace};
 ghost use Rattle.records.specs.Line.{joinedAll};
 ghost use Rattle.records.specs.Entry.{isIdle, agedEntry, hasNonce};
 ghost use Rattle.records.specs.Ageing.{buriedBy};
-ghost use Rattle.dead.specs.View as dead;
+ghost use Rattle.dead.specs.Places.View as dead;
 ghost use Rattle.entries.specs.Operations.{asking, notAsking, sending, notSent, nacking, nonceIn, requestNonce, sentNonceOf, askingFaces, sentFaces, newestIn, newestTime, unsentOf, earliestOf, nacksIn, nacksOf, overdue};
 ghost use Rattle.pending.specs.View.{view};
 

@@ -8,7 +8,7 @@ use mathlib.Core.Option.{Option, none, some}
 use lib.ListN.{length}
 use lib.Dec.{ltb, leb, eqb}
 use Rattle.laws.specs.Pick.{pick}
-use Rattle.laws.specs.Tab.{indexOf}
+use Rattle.laws.specs.Lists.{indexOf}
 use Rattle.names.specs.Name.{sameBytes, prefixOf}
 use Rattle.records.specs.Class.{Class, alarm, monitoring, bulk, noClass}
 use Rattle.records.specs.Slots.{noSlots, slot, setSlot, isSome, holds, Held, held, anyOf, only, isEmpty}

@@ -1,16 +1,10 @@
 pub mod Slots
 pub mod Class
 pub mod Face
-pub mod FaceLaws
 pub mod Route
-pub mod LeastLaws
 pub mod Entry
 pub mod Stored
-pub mod LookupLaws
 pub mod Line
 pub mod Happening
 pub mod Ageing
-pub mod PlaceLaws
-pub mod ClassLaws
-pub mod UseLaws
-pub mod EachLaws
+pub mod Laws

@@ -7,7 +7,7 @@ use mathlib.Core.Option.{Option, none, some}
 use lib.ListN.{length}
 use lib.Dec.{ltb}
 use Rattle.laws.specs.Pick.{pick}
-use Rattle.laws.specs.Tab.{indexOf, onAt, without}
+use Rattle.laws.specs.Lists.{indexOf, onAt, without}
 use Rattle.names.specs.Name.{sameBytes, prefixOf}
 use Rattle.records.specs.Class.{Class}
 use Rattle.records.specs.Slots.{given, atPlace, noSlots, slot, setSlot, Held, held, only}

@@ -6,7 +6,7 @@ use mathlib.Core.List.{List, [], _∷_, _++_}
 use mathlib.Core.Option.{Option, none, some}
 use lib.ListN.{getD, set, replicate}
 use lib.Dec.{eqb}
-unfoldable pub use Rattle.laws.specs.Any.{anyOf}
+unfoldable pub use Rattle.laws.specs.Lists.{anyOf}
 use Rattle.laws.specs.Pick.{pick}
 
 -- n empty slots

@@ -7,7 +7,7 @@ use mathlib.Core.Option.{Option, none, some}
 use lib.ListN.{length, drop}
 use lib.Dec.{ltb}
 use Rattle.laws.specs.Pick.{pick}
-use Rattle.laws.specs.Tab.{indexOf, without}
+use Rattle.laws.specs.Lists.{indexOf, without}
 use Rattle.names.specs.declared.order.Order.{Order}
 use Rattle.names.specs.Name.{sameBytes, prefixOf}
 use Rattle.names.specs.Order.{canonicalOrder}

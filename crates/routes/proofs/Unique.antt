@@ -6,7 +6,7 @@ use denote.Ref.{now}
 use denote.Triple.Clauses.{AtExit}
 use borrow.Fn.Kinds.{Dens, endedOf, resT}
 use Rattle.faces.specs.Set.{mostFaces}
-use Rattle.routes.specs.View.{view}
+use Rattle.routes.specs.Places.View.{view}
 use Rattle.routes.proofs.size.Kinds as size-kinds
 use Rattle.routes.proofs.size.Reads as size-reads
 use Rattle.routes.proofs.find.Kinds as find-kinds

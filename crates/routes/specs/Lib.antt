@@ -1,5 +1,3 @@
-pub mod View
 pub mod Operations
-pub mod SettingLaws
-pub mod HopLaws
-pub mod LongestLaws
+pub mod Places
+pub mod Laws

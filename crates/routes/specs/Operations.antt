@@ -8,7 +8,7 @@ use mathlib.Core.Option.{Option, none, some}
 use lib.ListN.{length}
 use lib.Dec.{ltb, leb}
 use Rattle.laws.specs.Pick.{pick}
-use Rattle.laws.specs.Tab.{onAt}
+use Rattle.laws.specs.Lists.{onAt}
 use Rattle.names.specs.Name.{prefixOf}
 use Rattle.faces.specs.Set.{hasFace, facesWhere}
 use Rattle.records.specs.Class.{Class, classNumber}

@@ -12,14 +12,14 @@ ghost use mathlib.Core.List.{List};
 ghost use mathlib.Core.Option.{none, some};
 ghost use Prim.Native.Nat.{ℕ, _≤_};
 ghost use lib.ListN.{length, getD, take};
-ghost use Rattle.laws.specs.Tab.{without};
+ghost use Rattle.laws.specs.Lists.{without};
 ghost use Rattle.faces.specs.Set.{mostFaces};
 ghost use Rattle.records.specs.Class.{classOf};
 ghost use Rattle.records.specs.Slots.{isSome, given, atPlace};
 ghost use Rattle.records.specs.Face.{isFace};
 ghost use Rattle.records.specs.Route.{routeOf, withHop, hopAt};
-ghost use Rattle.routes.specs.View.{view, routeRow};
-ghost use Rattle.routes.specs.HopLaws.{leastOf};
+ghost use Rattle.routes.specs.Places.View.{view, routeRow};
+ghost use Rattle.routes.specs.Places.Hop.{leastOf};
 ghost use Rattle.routes.specs.Operations.{Sets, withHopOf, withoutFaceHops, longestAt, hopsOf, classWord, cheapestOf};
 
 // "Routes 32", "Name at most .. 255 bytes": the prefixes, lent by the caller.

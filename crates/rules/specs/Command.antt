@@ -8,7 +8,7 @@ use lib.ListN.{length}
 use lib.Dec.{ltb, leb, eqb}
 use Rattle.answers.specs.declared.Answer.{Answer}
 use Rattle.laws.specs.Pick.{pick}
-use Rattle.laws.specs.Tab.{onAt, without}
+use Rattle.laws.specs.Lists.{onAt, without}
 use Rattle.names.specs.declared.component.Counted.{Counted}
 use Rattle.names.specs.Name.{counted}
 use Rattle.records.specs.Class.{classOf, isClass}

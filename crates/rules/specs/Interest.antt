@@ -8,7 +8,7 @@ use lib.ListN.{length}
 use lib.Dec.{ltb, eqb}
 use Rattle.answers.specs.declared.Answer.{Answer}
 use Rattle.laws.specs.Pick.{pick}
-use Rattle.laws.specs.Tab.{indexOf, onAt}
+use Rattle.laws.specs.Lists.{indexOf, onAt}
 use Rattle.names.specs.Name.{underLocalhost, underLocalhop}
 use Rattle.packets.specs.Meaning.{Ask}
 use Rattle.records.specs.Class.{Class}

@@ -7,15 +7,5 @@ pub mod Nack
 pub mod Command
 pub mod Step
 pub mod Packed
-pub mod Compute
-pub mod Cases
-pub mod RefusalsAnswers
-pub mod RefusalsEvents
-pub mod RefusalsExactly
-pub mod RefusalsLeaves
-pub mod RefusalsLongest
-pub mod RefusalsOccur
-pub mod RefusalsReading
-pub mod RefusalsTells
-pub mod RefusalsTests
-pub mod RefusalsWords
+pub mod Refusals
+pub mod Laws

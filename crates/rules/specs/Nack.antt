@@ -5,7 +5,7 @@ use mathlib.Core.List.{List, [], _∷_, map}
 use mathlib.Core.Option.{Option, none, some}
 use Rattle.answers.specs.declared.Answer.{Answer}
 use Rattle.laws.specs.Pick.{pick}
-use Rattle.laws.specs.Tab.{onAt, without}
+use Rattle.laws.specs.Lists.{onAt, without}
 use Rattle.packets.specs.Meaning.{Ask}
 use Rattle.writing.specs.Written.{nackBytes}
 use Rattle.records.specs.Slots.{Held, held, only, atPlace}

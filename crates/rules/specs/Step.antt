@@ -9,7 +9,8 @@ use Rattle.answers.specs.declared.Answer.{Answer}
 use Rattle.laws.specs.Pick.{pick}
 use Rattle.packets.specs.Header.{Came, headerRead, val}
 use Rattle.packets.specs.Header as header
-use Rattle.packets.specs.Bare.{Reading, hopIn, bareRead}
+use Rattle.packets.specs.Bare.{Reading, bareRead}
+use Rattle.packets.specs.Places.Bare.{hopIn}
 use Rattle.packets.specs.Bare as bare
 use Rattle.packets.specs.Meaning.{askOf, offerOf}
 use Rattle.writing.specs.Written.{lowered}

@@ -5,7 +5,7 @@ use contract.Lifetimes.{Lfts}
 use denote.Ref.{now}
 use denote.Triple.Clauses.{AtExit}
 use borrow.Fn.Kinds.{Dens, endedOf, resT}
-use Rattle.store.specs.View.{view}
+use Rattle.store.specs.Places.View.{view}
 use Rattle.store.proofs.size.Kinds as size-kinds
 use Rattle.store.proofs.size.Reads as size-reads
 use Rattle.store.proofs.bytes_of.Kinds as bytes-of-kinds

@@ -1,4 +1,3 @@
-pub mod View
+pub mod Operations
+pub mod Places
 pub mod Laws
-pub mod Lookup
-pub mod Hits

@@ -12,12 +12,13 @@ ghost use Prim.Native.Nat.{_<_, _≤_};
 ghost use mathlib.Core.Path.{_≡_};
 ghost use mathlib.Core.List.{[]};
 ghost use lib.ListN.{length, take};
-ghost use Rattle.laws.specs.Tab.{indexOf, without};
+ghost use Rattle.laws.specs.Lists.{indexOf, without};
 ghost use Rattle.records.specs.Slots.{given, atPlace};
 ghost use Rattle.records.specs.Stored.{serves, isBefore, earlier, lookup};
-ghost use Rattle.store.specs.View.{view, dataOf, storedAt, Puts, recent};
-ghost use Rattle.store.specs.Laws.{isNamed, leaver};
-ghost use Rattle.store.specs.Lookup.{answers, inTime, hit, hitAt};
+ghost use Rattle.store.specs.Places.View.{view, dataOf, storedAt};
+ghost use Rattle.store.specs.Operations.{Puts, recent};
+ghost use Rattle.store.specs.Places.Put.{isNamed, leaver};
+ghost use Rattle.store.specs.Places.Look.{answers, inTime, hit, hitAt};
 
 // "stored Data 8", "Packet at most 1,500 bytes": the packets, lent by the caller.
 pub type Packets = [[u8; 1500]; 8];

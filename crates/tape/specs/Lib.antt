@@ -1,4 +1,3 @@
 pub mod Number
-pub mod NumberLaws
-pub mod NumberRound
-pub mod NumberCases
+pub mod Places
+pub mod Laws

@@ -2,7 +2,7 @@
 ghost use mathlib.Core.Path.{_≡_};
 ghost use Prim.Native.Nat.{_<_};
 ghost use Rattle.tape.specs.Number.{tapeNumberAt};
-ghost use Rattle.tape.specs.NumberLaws.{Passed, closed};
+ghost use Rattle.tape.specs.Places.Number.{Passed, closed};
 
 // A number and the place past it, or that the bytes are none.
 pub enum TapeNumber {

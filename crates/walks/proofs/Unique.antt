@@ -9,7 +9,7 @@ use denote.Ref.{now}
 use denote.Triple.Clauses.{AtExit}
 use borrow.Fn.Kinds.{Dens, endedOf, resT}
 use Rattle.faces.specs.Set.{mostFaces}
-use Rattle.dead.specs.View as dead
+use Rattle.dead.specs.Places.View as dead
 use Rattle.entries.specs.View.{view}
 use Rattle.walks.specs.WalkLaws.{newest-same, nacks-same}
 use Rattle.walks.proofs.age.Kinds as age-kinds

@@ -13,23 +13,25 @@ use lib.ListN.{getD, take}
 use lib.Dec.{ltb, eqb}
 use lib.Pow.{pow-pos}
 use borrow.Author.Tests.{ltb-true, ltb-false, eqb-true, eqb-false, ne-eqb}
-use Rattle.laws.specs.Any.{anyOf}
-use Rattle.laws.specs.Pick.{pick, pick-ind, pick-yes, pick-no}
-use Rattle.laws.specs.Digits.{member, member-no, digit-zero, added-lt}
-use Rattle.laws.specs.Tab.{tab}
+use Rattle.laws.specs.Lists.{anyOf}
+use Rattle.laws.specs.Pick.{pick}
+use Rattle.laws.specs.Laws.Pick.{pick-ind, pick-yes, pick-no}
+use Rattle.laws.specs.Digits.{member}
+use Rattle.laws.specs.Laws.Digits.{member-no, digit-zero, added-lt}
+use Rattle.laws.specs.Places.Tab.{tab}
 use Rattle.records.specs.Slots.{slot, isSome, holds, given, Held, held, only}
 use Rattle.records.specs.Face.{isFace}
-use Rattle.records.specs.FaceLaws.{face-yes}
+use Rattle.records.specs.Laws.Face.{face-yes}
 use Rattle.records.specs.Route.{lessBy, leastBy}
-use Rattle.records.specs.LeastLaws.{least-step}
+use Rattle.records.specs.Laws.Least.{least-step}
 use Rattle.records.specs.Entry.{Sent, withRequests, isLive, ifLive, agedEntry, hasNonce, newestOf, wasNacked, lesserReason, smallestReason, allNacked}
 use Rattle.records.specs.Line.{Line, joined, joinedAll}
 use Rattle.records.specs.Ageing.{buriedBy}
 use Rattle.faces.specs.Set.{hasFace, withFace, withoutFace, facesWhere}
-use Rattle.faces.specs.SetLaws.{has-after, has-added-same, has-added-other, has-removed-same, has-removed-other, lowest-before, where-has, where-is, where-ext}
+use Rattle.faces.specs.Laws.Set.{has-after, has-added-same, has-added-other, has-removed-same, has-removed-other, lowest-before, where-has, where-is, where-ext}
 use Rattle.faces.specs.Slots.{slotsOf, slotFor}
-use Rattle.faces.specs.WalkLaws.{Walks, walk-has, walk-more, walk-end}
-use Rattle.faces.specs.SlotLaws.{holds-there, slots-slot, slots-only, any-held}
+use Rattle.faces.specs.Laws.Walk.{Walks, walk-has, walk-more, walk-end}
+use Rattle.faces.specs.Laws.Slot.{holds-there, slots-slot, slots-only, any-held}
 use Rattle.entries.specs.View.{requestAt, nackWord, sentAt, view, view-name, view-prefix, view-fresh, view-class, view-requests, view-sent}
 use Rattle.entries.specs.Operations.{overdue, newestIn, newestTime, earliestOf, nacksIn, nacksOf}
 use Rattle.entries.specs.ChangeLaws.{view-is}

@@ -8,7 +8,7 @@ use denote.Ref.{now}
 use denote.Triple.Clauses.{AtExit}
 use borrow.Fn.Kinds.{Dens, endedOf, resT}
 use Rattle.wire.specs.declared.write.Put.{Put}
-use Rattle.wire.specs.Write.{Outcome, outcome}
+use Rattle.wire.specs.Places.Write.{Outcome, outcome}
 use Rattle.wire.proofs.write.put_number.Kinds as number-kinds
 use Rattle.wire.proofs.write.put_number.Reads as number-reads
 use Rattle.wire.proofs.write.put_head.Kinds as head-kinds

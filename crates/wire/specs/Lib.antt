@@ -1,13 +1,5 @@
 pub mod Number
 pub mod Element
-pub mod Place
 pub mod Write
-pub mod Bytes
-pub mod Within
-pub mod Walk
-pub mod Extend
-pub mod Exact
-pub mod ReadLaws
-pub mod WriteLaws
-pub mod Round
-pub mod Change
+pub mod Places
+pub mod Laws

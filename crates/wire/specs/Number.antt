@@ -1,7 +1,7 @@
 -- Document 01, "Reading packets": "TLV variable numbers of 1, 3, 5 or 9 bytes, shortest form only", over a list of bytes.
 -- Assumes nothing.
 use Prim.Native.Nat.{ℕ, suc, _+_, _*_}
-use mathlib.Core.Bool.{Bool, true, false}
+use mathlib.Core.Bool.{Bool, _||_}
 use mathlib.Core.List.{List, [], _∷_}
 use lib.ListN.{length, take, drop}
 use lib.Dec.{ltb, eqb}
@@ -43,3 +43,7 @@ shortest (got v w l) = pick (eqb w (widthOf v)) (got v w l) nothing
 unfoldable pub number : List ℕ → Got
 unfolding pick big wide long anyNumber widthOf shortest
 number l = shortest (anyNumber l)
+
+-- "Whole numbers in elements take 1, 2, 4 or 8 bytes."
+unfoldable pub isWhole : ℕ → Bool
+isWhole n = eqb n 1 || eqb n 2 || eqb n 4 || eqb n 8

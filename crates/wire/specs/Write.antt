@@ -1,13 +1,10 @@
 -- Writing: the bytes of a number in its shortest form and of an element, and what a writer leaves in the buffer.
 -- Assumes nothing.
-use Prim.Native.Nat.{ℕ, zero, suc, _+_, _/_, _%_}
-use mathlib.Core.Bool.{Bool, true, false}
+use Prim.Native.Nat.{ℕ, zero, suc, _/_, _%_}
 use mathlib.Core.List.{List, [], _∷_, _++_}
 use lib.ListN.{length}
-use lib.Seq.{sets}
-use lib.Dec.{ltb, leb}
+use lib.Dec.{ltb}
 use Rattle.laws.specs.Pick.{pick}
-use Rattle.wire.specs.declared.write.Put.{Put}
 
 -- n in k bytes, the highest first
 unfoldable pub bytesOf : ℕ → ℕ → List ℕ
@@ -28,15 +25,3 @@ headOf t n = encoded t ++ encoded n
 unfoldable pub written : ℕ → List ℕ → List ℕ
 unfolding pick bytesOf encoded headOf
 written t v = headOf t (length v) ++ v
-
--- a writer's answer, and the buffer that it leaves
-pub record Outcome : Type 0 where
-  pub next : Put
-  pub buffer : List ℕ
-
-abbrev pub outcome : Put → List ℕ → Outcome
-outcome r b = record { next = r; buffer = b }
-
--- bytes written from a place on, the rest of the buffer unchanged; where they do not fit, the buffer as it was
-unfoldable pub wrote : List ℕ → ℕ → List ℕ → Outcome
-wrote b at vs = pick (leb (at + length vs) (length b)) (outcome (Put.Next (at + length vs)) (sets b at vs)) (outcome Put.Full b)

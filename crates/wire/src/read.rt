@@ -3,7 +3,7 @@ ghost use mathlib.Core.Path.{_≡_};
 ghost use Prim.Native.Nat.{_+_, _<_, _≤_};
 ghost use lib.ListN.{length, take, drop};
 ghost use Rattle.wire.specs.Number.{big, widthOf};
-ghost use Rattle.wire.specs.Place.{longNumberAt, anyNumberAt, numberAt, elementAt, wholeOf};
+ghost use Rattle.wire.specs.Places.Place.{longNumberAt, anyNumberAt, numberAt, elementAt, wholeOf};
 
 // A place in a slice. The slice is the parent, and its length is where the parent ends.
 pub struct Cursor {

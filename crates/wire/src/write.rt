@@ -5,7 +5,8 @@ ghost use lib.ListN.{length};
 ghost use lib.Seq.{sets};
 ghost use lib.Dec.{leb};
 ghost use Rattle.wire.specs.Number.{widthOf};
-ghost use Rattle.wire.specs.Write.{bytesOf, encoded, headOf, outcome, wrote};
+ghost use Rattle.wire.specs.Write.{bytesOf, encoded, headOf};
+ghost use Rattle.wire.specs.Places.Write.{outcome, wrote};
 
 // Where a writer goes on, or that what it was to write does not fit.
 pub enum Put {

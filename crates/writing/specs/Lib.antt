@@ -1,7 +1,3 @@
 pub mod Written
-pub mod Size
-pub mod Stored
-pub mod WrittenLaws
-pub mod NackBack
-pub mod BareBack
-pub mod InterestBack
+pub mod Places
+pub mod Laws

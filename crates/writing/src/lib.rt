@@ -8,9 +8,10 @@ ghost use mathlib.Core.List.{List};
 ghost use lib.ListN.{length, set};
 ghost use lib.Dec.{ltb};
 ghost use Rattle.laws.specs.Pick.{pick};
-ghost use Rattle.wire.specs.Write.{bytesOf, headOf, written, outcome, wrote};
+ghost use Rattle.wire.specs.Write.{bytesOf, headOf, written};
+ghost use Rattle.wire.specs.Places.Write.{outcome, wrote};
 ghost use Rattle.writing.specs.Written.{flag, requestValue, requestBytes, reasonBytes, nackValue, nackBytes, lowered};
-ghost use Rattle.writing.specs.Stored.{Room, Stored};
+ghost use Rattle.writing.specs.Places.Stored.{Room, Stored};
 
 // How many bytes an element takes whose value has `len` bytes.
 fn element_len(typ: u64, len: usize) -> usize

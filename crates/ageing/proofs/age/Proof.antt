@@ -4,7 +4,7 @@ use native.Mathlib.Omega.{arith}
 use Prim.Native.Nat.{_-_}
 use Rattle.names.specs.Fingerprint.{fingerprint}
 use Rattle.faces.specs.Set.{mostFaces}
-use Rattle.dead.specs.View as dead
+use Rattle.dead.specs.Places.View as dead
 use Rattle.pending.specs.View as pending
 use Rattle.ageing.specs.Pass.{Passing}
 use Rattle.ageing.specs.PassLaws.{pass-start, pass-turn, pass-end}

@@ -1,6 +1,6 @@
 -- A ring that counts no lines has none.
 use mathlib.Core.Path.{refl}
-use Rattle.dead.specs.View.{view-empty}
+use Rattle.dead.specs.Places.View.{view-empty}
 use Rattle.dead.proofs.cleared.Statement.{statement}
 use Rattle.dead.proofs.cleared.Tie as tie
 

@@ -5,7 +5,7 @@ use mathlib.Core.Path.{_≡_, refl, sym, _∙_}
 use Prim.Native.Nat.{_-_}
 use lib.ListN.{drop}
 use Rattle.records.specs.Line.{isDead}
-use Rattle.dead.specs.View.{lineAt, view, view-dead, view-dead-end}
+use Rattle.dead.specs.Places.View.{lineAt, view, view-dead, view-dead-end}
 use Rattle.dead.proofs.is_dead.Statement.{statement}
 use Rattle.dead.proofs.is_dead.Tie as tie
 

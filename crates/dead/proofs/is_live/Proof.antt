@@ -5,7 +5,7 @@ use borrow.Author.Tests.{lt-ltb, le-ltb, le-leb, lt-leb, eq-eqb, ne-eqb}
 use mathlib.Core.Path.{_≡_}
 use Prim.Native.Nat.{ℕ, _-_, _<_}
 use Rattle.records.specs.Line.{counts}
-use Rattle.dead.specs.View.{lineOf}
+use Rattle.dead.specs.Places.View.{lineOf}
 use lib.Dec.{ltb}
 use mathlib.Core.Bool.{true}
 use Rattle.dead.proofs.is_live.Statement.{statement}

@@ -1,7 +1,7 @@
 -- One law for a ring with room and one for a full ring. Both need that the table has its 256 rows.
 use borrow.Author.Needs.{needs}
 use native.Mathlib.Omega.{arith}
-use Rattle.dead.specs.View.{view-join-room, view-join-full}
+use Rattle.dead.specs.Places.View.{view-join-room, view-join-full}
 use Rattle.dead.proofs.join.Statement.{statement}
 use Rattle.dead.proofs.join.Tie as tie
 

@@ -3,7 +3,7 @@ use borrow.Author.Tests.{le-leb}
 use native.Mathlib.Omega.{arith}
 use mathlib.Core.Path.{sym}
 use Rattle.faces.specs.Set.{mostFaces}
-use Rattle.records.specs.FaceLaws.{face-no}
+use Rattle.records.specs.Laws.Face.{face-no}
 use Rattle.records.specs.Face.{isFace}
 use Rattle.entries.proofs.is_face.Statement.{statement}
 use Rattle.entries.proofs.is_face.Tie as tie

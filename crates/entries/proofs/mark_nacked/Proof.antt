@@ -3,8 +3,8 @@ use native.Mathlib.Omega.{arith}
 use mathlib.Core.Path.{sym, _∙_}
 use Rattle.faces.specs.Set.{mostFaces}
 use Rattle.entries.specs.ChangeLaws.{view-nacking, view-nacking-none}
-use Rattle.faces.specs.SetLaws.{has-face}
-use Rattle.laws.specs.Rows.{at}
+use Rattle.faces.specs.Laws.Set.{has-face}
+use Rattle.laws.specs.Places.Rows.{at}
 use borrow.Author.Needs.{needs}
 use Rattle.entries.proofs.mark_nacked.Statement.{statement}
 use Rattle.entries.proofs.mark_nacked.Tie as tie

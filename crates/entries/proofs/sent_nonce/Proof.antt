@@ -4,8 +4,8 @@ use mathlib.Core.Path.{sym, _∙_}
 use Rattle.faces.specs.Set.{mostFaces}
 use Rattle.entries.specs.ChangeLaws.{view-sent-nonce}
 use Rattle.entries.specs.Operations.{nonceIn}
-use Rattle.faces.specs.SetLaws.{has-face}
-use Rattle.laws.specs.Pick.{pick-yes, pick-no}
+use Rattle.faces.specs.Laws.Set.{has-face}
+use Rattle.laws.specs.Laws.Pick.{pick-yes, pick-no}
 use borrow.Author.Needs.{needs}
 use Rattle.entries.proofs.sent_nonce.Statement.{statement}
 use Rattle.entries.proofs.sent_nonce.Tie as tie

@@ -2,9 +2,9 @@
 use borrow.Author.Needs.{needs}
 use native.Mathlib.Omega.{arith}
 use Prim.Native.Nat.{_-_}
-use Rattle.records.specs.FaceLaws.{face-yes, face-no}
+use Rattle.records.specs.Laws.Face.{face-yes, face-no}
 use Rattle.faces.specs.Set.{withFace, mostFaces}
-use Rattle.laws.specs.Digits.{or-added}
+use Rattle.laws.specs.Laws.Digits.{or-added}
 use Rattle.laws.specs.Pick.{pick}
 use Rattle.faces.proofs.add.Statement.{statement}
 use Rattle.faces.proofs.add.Tie as tie

@@ -2,7 +2,7 @@
 use borrow.Author.Needs.{needs}
 use mathlib.Core.Path.{_∙_}
 use Rattle.faces.specs.Set.{mostFaces}
-use Rattle.faces.specs.SetLaws.{where-ext, has-or}
+use Rattle.faces.specs.Laws.Set.{where-ext, has-or}
 use Rattle.faces.proofs.either.Statement.{statement}
 use Rattle.faces.proofs.either.Tie as tie
 

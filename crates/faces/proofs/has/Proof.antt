@@ -2,9 +2,10 @@
 use borrow.Author.Needs.{needs}
 use native.Mathlib.Omega.{arith}
 use Prim.Native.Nat.{_-_}
-use Rattle.records.specs.FaceLaws.{face-yes, face-no}
+use Rattle.records.specs.Laws.Face.{face-yes, face-no}
 use Rattle.faces.specs.Set.{hasFace, mostFaces}
-use Rattle.laws.specs.Digits.{member, digit-shift}
+use Rattle.laws.specs.Digits.{member}
+use Rattle.laws.specs.Laws.Digits.{digit-shift}
 use Rattle.faces.proofs.has.Statement.{statement}
 use Rattle.faces.proofs.has.Tie as tie
 

@@ -2,7 +2,7 @@
 use borrow.Author.Needs.{needs}
 use mathlib.Core.Path.{sym}
 use Rattle.faces.specs.Set.{mostFaces}
-use Rattle.faces.specs.SetLaws.{where-mod}
+use Rattle.faces.specs.Laws.Set.{where-mod}
 use Rattle.faces.proofs.members.Statement.{statement}
 use Rattle.faces.proofs.members.Tie as tie
 

@@ -3,8 +3,8 @@ use borrow.Author.Needs.{needs}
 use native.Mathlib.Omega.{arith}
 use mathlib.Core.Path.{sym, _∙_}
 use Prim.Native.Nat.{_-_}
-use Rattle.faces.specs.SetLaws.{has-face, has-member, without-present, without-absent}
-use Rattle.laws.specs.Digits.{shl-one, digit-pow-le, member-yes}
+use Rattle.faces.specs.Laws.Set.{has-face, has-member, without-present, without-absent}
+use Rattle.laws.specs.Laws.Digits.{shl-one, digit-pow-le, member-yes}
 use Rattle.faces.proofs.remove.Statement.{statement}
 use Rattle.faces.proofs.remove.Tie as tie
 

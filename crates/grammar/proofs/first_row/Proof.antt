@@ -1,7 +1,7 @@
 -- Each return is what the definition picks under the tests on the way to it.
 use borrow.Author.Needs.{needs}
 use borrow.Author.Tests.{lt-ltb, le-ltb, le-leb, lt-leb, eq-eqb, ne-eqb}
-use Rattle.grammar.specs.Table.{start}
+use Rattle.grammar.specs.Places.Table.{start}
 use Rattle.laws.specs.Pick.{pick}
 use Rattle.grammar.proofs.first_row.Statement.{statement}
 use Rattle.grammar.proofs.first_row.Tie as tie

@@ -2,7 +2,7 @@
 use borrow.Author.Needs.{needs}
 use borrow.Author.Tests.{lt-ltb, le-ltb, le-leb, lt-leb, eq-eqb, ne-eqb}
 use Rattle.grammar.specs.Table.{fits}
-use Rattle.wire.specs.Place.{isWhole}
+use Rattle.wire.specs.Number.{isWhole}
 use Rattle.laws.specs.Pick.{pick}
 use Rattle.grammar.proofs.length_fits.Statement.{statement}
 use Rattle.grammar.proofs.length_fits.Tie as tie

@@ -4,7 +4,7 @@ use native.Mathlib.Omega.{arith}
 use mathlib.Core.Path.{sym, _∙_}
 use Prim.Native.Nat.{_-_}
 use Rattle.grammar.specs.Table.{table}
-use Rattle.grammar.specs.TableLaws.{Sought, sought-start, sought-here, other-type, other-parent, sought-end}
+use Rattle.grammar.specs.Laws.Table.{Sought, sought-start, sought-here, other-type, other-parent, sought-end}
 use mathlib.Core.Logic.{⊎-elim}
 use Rattle.grammar.proofs.row_of.Statement.{statement}
 use Rattle.grammar.proofs.row_of.Tie as tie

@@ -3,8 +3,8 @@ use borrow.Author.Needs.{needs}
 use native.Mathlib.Omega.{arith}
 use mathlib.Core.Path.{sym, _∙_}
 use Prim.Native.Nat.{_-_, _<_}
-use Rattle.grammar.specs.WalkLaws.{Walking, walking-start, walking-end, walking-bad, walking-more, order-small}
-use Rattle.wire.specs.Within.{read-is}
+use Rattle.grammar.specs.Laws.Walk.{Walking, walking-start, walking-end, walking-bad, walking-more, order-small}
+use Rattle.wire.specs.Laws.Within.{read-is}
 use lib.ListN.{length}
 use Rattle.grammar.proofs.walk.Statement.{statement}
 use Rattle.grammar.proofs.walk.Tie as tie

@@ -1,7 +1,7 @@
 -- Each part of a group stands within the input, since its field does.
 use borrow.Author.Needs.{needs}
 use native.Mathlib.Omega.{arith}
-use Rattle.groundout.specs.Group.{field-in}
+use Rattle.groundout.specs.Laws.Group.{field-in}
 use Rattle.groundout.proofs.group.Statement.{statement}
 use Rattle.groundout.proofs.group.Tie as tie
 

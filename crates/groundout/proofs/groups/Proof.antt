@@ -3,7 +3,7 @@ use Prim.Native.Nat.{_≤_, _-_}
 use lib.ListN.{length}
 use mathlib.Core.Path.{_≡_}
 use native.Mathlib.Omega.{arith}
-use Rattle.groundout.specs.Group.{ahead}
+use Rattle.groundout.specs.Laws.Group.{ahead}
 use borrow.Author.Needs.{needs}
 use Rattle.groundout.proofs.groups.Statement.{statement}
 use Rattle.groundout.proofs.groups.Tie as tie

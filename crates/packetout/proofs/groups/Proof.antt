@@ -3,7 +3,7 @@ use borrow.Author.Needs.{needs}
 use native.Mathlib.Omega.{arith}
 use mathlib.Core.Path.{_≡_}
 use Prim.Native.Nat.{_+_, _-_, _≤_}
-use Rattle.packetout.specs.Group.{group-in}
+use Rattle.packetout.specs.Laws.Group.{group-in}
 use lib.ListN.{length}
 use Rattle.packetout.proofs.groups.Statement.{statement}
 use Rattle.packetout.proofs.groups.Tie as tie

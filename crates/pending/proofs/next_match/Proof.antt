@@ -5,7 +5,7 @@ use mathlib.Core.Path.{_≡_, sym, _∙_}
 use Prim.Native.Nat.{_+_, _-_, _≤_}
 use lib.ListN.{drop}
 use Rattle.faces.specs.Set.{mostFaces}
-use Rattle.laws.specs.Tab.{indexOf}
+use Rattle.laws.specs.Lists.{indexOf}
 use Rattle.records.specs.Entry.{matches}
 use Rattle.pending.specs.Operations.{nextMatch}
 use Rattle.pending.specs.View.{view, rowAt, view-hit, view-miss, view-past, view-next}

@@ -4,7 +4,7 @@ use native.Mathlib.Omega.{arith}
 use mathlib.Core.Path.{_∙_}
 use Prim.Native.Nat.{_-_}
 use Rattle.faces.specs.Set.{mostFaces}
-use Rattle.wire.specs.WriteLaws.{answer-next, answer-full}
+use Rattle.wire.specs.Laws.Write.{answer-next, answer-full}
 use Rattle.entries.specs.Operations.{bareEntry}
 use Rattle.pending.specs.View.{view-length, view-same, view-kept, view-open}
 use Rattle.pending.specs.OpenLaws.{row-back, opens-more, opens-long, opens-full}

@@ -5,9 +5,10 @@ use mathlib.Core.Path.{_≡_, refl, sym, _∙_}
 use Prim.Native.Nat.{_+_, _-_, _≤_}
 use Rattle.faces.specs.Set.{mostFaces}
 use mathlib.Core.List.{[]}
-use Rattle.laws.specs.Loop.{turns, turns-turn, turns-end}
-use Rattle.laws.specs.Rows.{down}
-use Rattle.laws.specs.Tab.{without-out}
+use Rattle.laws.specs.Places.Loop.{turns}
+use Rattle.laws.specs.Laws.Loop.{turns-turn, turns-end}
+use Rattle.laws.specs.Places.Rows.{down}
+use Rattle.laws.specs.Laws.Tab.{without-out}
 use Rattle.pending.specs.View.{view-length, view-same, view-remove}
 use Rattle.pending.proofs.remove.Statement.{statement}
 use Rattle.pending.proofs.remove.Tie as tie

@@ -5,10 +5,10 @@ use native.Mathlib.Omega.{arith}
 use mathlib.Core.Path.{sym, _∙_}
 use mathlib.Core.Option.{some}
 use Rattle.faces.specs.Set.{mostFaces}
-use Rattle.records.specs.FaceLaws.{face-yes, face-no}
+use Rattle.records.specs.Laws.Face.{face-yes, face-no}
 use Rattle.records.specs.Route.{withHop}
-use Rattle.routes.specs.View.{routeAt, view-length, view-on}
-use Rattle.routes.specs.HopLaws.{hop-here, hop-none, hop-out}
+use Rattle.routes.specs.Places.View.{routeAt, view-length, view-on}
+use Rattle.routes.specs.Laws.Hop.{hop-here, hop-none, hop-out}
 use Rattle.routes.proofs.add_hop.Statement.{statement}
 use Rattle.routes.proofs.add_hop.Tie as tie
 

@@ -6,10 +6,11 @@ use mathlib.Core.Path.{_≡_, sym, _∙_}
 use Prim.Native.Nat.{_-_}
 use mathlib.Core.Option.{none}
 use Rattle.faces.specs.Set.{mostFaces}
-use Rattle.laws.specs.Loop.{from-zero, turns, turns-turn, turns-end}
-use Rattle.routes.specs.View.{view, view-length}
+use Rattle.laws.specs.Laws.Loop.{from-zero, turns-turn, turns-end}
+use Rattle.laws.specs.Places.Loop.{turns}
+use Rattle.routes.specs.Places.View.{view, view-length}
 use Rattle.routes.specs.Operations.{withHopOf, withoutFaceHops}
-use Rattle.routes.specs.HopLaws.{hops-all}
+use Rattle.routes.specs.Laws.Hop.{hops-all}
 use Rattle.routes.proofs.drop_face.Statement.{statement}
 use Rattle.routes.proofs.drop_face.Tie as tie
 

@@ -10,8 +10,8 @@ use Rattle.faces.specs.Set.{mostFaces}
 use Rattle.laws.specs.Pick.{pick}
 use Rattle.records.specs.Face.{isFace}
 use Rattle.records.specs.Route.{withHop}
-use Rattle.routes.specs.View.{routeAt, view-length, view-head}
-use Rattle.routes.specs.HopLaws.{row-take, hop-if, hop-out}
+use Rattle.routes.specs.Places.View.{routeAt, view-length, view-head}
+use Rattle.routes.specs.Laws.Hop.{row-take, hop-if, hop-out}
 use Rattle.routes.proofs.drop_hop.Statement.{statement}
 use Rattle.routes.proofs.drop_hop.Tie as tie
 

@@ -5,10 +5,11 @@ use native.Mathlib.Omega.{arith}
 use mathlib.Core.Path.{_≡_, sym, _∙_}
 use Prim.Native.Nat.{_-_}
 use Rattle.faces.specs.Set.{mostFaces}
-use Rattle.laws.specs.Loop.{first, first-hit, first-miss, first-end, from-zero}
+use Rattle.laws.specs.Places.Loop.{first}
+use Rattle.laws.specs.Laws.Loop.{first-hit, first-miss, first-end, from-zero}
 use Rattle.names.specs.Name.{sameBytes}
 use Rattle.records.specs.Route.{routeOf}
-use Rattle.routes.specs.View.{view, routeAt, routeRow, view-find}
+use Rattle.routes.specs.Places.View.{view, routeAt, routeRow, view-find}
 use Rattle.routes.proofs.find.Statement.{statement}
 use Rattle.routes.proofs.find.Tie as tie
 

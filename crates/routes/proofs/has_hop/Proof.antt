@@ -8,8 +8,8 @@ use Rattle.faces.specs.Set.{mostFaces}
 use Rattle.records.specs.Face.{isFace}
 use Rattle.records.specs.Route.{hopAt}
 use Rattle.records.specs.Slots.{given, isSome}
-use Rattle.routes.specs.View.{routeAt, view-place, view-none}
-use Rattle.routes.specs.HopLaws.{row-has}
+use Rattle.routes.specs.Places.View.{routeAt, view-place, view-none}
+use Rattle.routes.specs.Laws.Hop.{row-has}
 use Rattle.routes.proofs.has_hop.Statement.{statement}
 use Rattle.routes.proofs.has_hop.Tie as tie
 

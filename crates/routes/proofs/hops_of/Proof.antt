@@ -5,8 +5,8 @@ use native.Mathlib.Omega.{arith}
 use mathlib.Core.Path.{sym, _∙_}
 use Rattle.faces.specs.Set.{mostFaces}
 use Rattle.records.specs.Slots.{given}
-use Rattle.routes.specs.View.{routeAt, view-place, view-none}
-use Rattle.routes.specs.HopLaws.{row-hops}
+use Rattle.routes.specs.Places.View.{routeAt, view-place, view-none}
+use Rattle.routes.specs.Laws.Hop.{row-hops}
 use Rattle.routes.proofs.hops_of.Statement.{statement}
 use Rattle.routes.proofs.hops_of.Tie as tie
 

@@ -5,8 +5,8 @@ use native.Mathlib.Omega.{arith}
 use lib.ListN.{getD}
 use Rattle.records.specs.Slots.{given}
 use Rattle.faces.specs.Set.{lowestOf, mostFaces}
-use Rattle.faces.specs.SlotLaws.{lowest-less}
-use Rattle.routes.specs.HopLaws.{Least, least-none, least-first, least-lower, least-stays, least-end}
+use Rattle.faces.specs.Laws.Slot.{lowest-less}
+use Rattle.routes.specs.Laws.Hop.{Least, least-none, least-first, least-lower, least-stays, least-end}
 use Rattle.routes.proofs.least.Statement.{statement}
 use Rattle.routes.proofs.least.Tie as tie
 

@@ -5,8 +5,8 @@ use native.Mathlib.Omega.{arith}
 use mathlib.Core.Path.{sym, _∙_}
 use Prim.Native.Nat.{_-_, _≤_}
 use Rattle.faces.specs.Set.{mostFaces}
-use Rattle.routes.specs.View.{view, routeAt, routeRow, view-drop, view-end}
-use Rattle.routes.specs.LongestLaws.{Best, best-none, best-all, best-here, best-short, best-apart}
+use Rattle.routes.specs.Places.View.{view, routeAt, routeRow, view-drop, view-end}
+use Rattle.routes.specs.Laws.Longest.{Best, best-none, best-all, best-here, best-short, best-apart}
 use Rattle.routes.proofs.longest.Statement.{statement}
 use Rattle.routes.proofs.longest.Tie as tie
 

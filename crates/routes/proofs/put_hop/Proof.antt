@@ -5,8 +5,8 @@ use native.Mathlib.Omega.{arith}
 use Prim.Native.Nat.{_-_}
 use lib.Seq.{getD-set-same, getD-set-other}
 use Rattle.faces.specs.Set.{mostFaces}
-use Rattle.records.specs.FaceLaws.{face-yes}
-use Rattle.routes.specs.HopLaws.{row-put}
+use Rattle.records.specs.Laws.Face.{face-yes}
+use Rattle.routes.specs.Laws.Hop.{row-put}
 use Rattle.routes.proofs.put_hop.Statement.{statement}
 use Rattle.routes.proofs.put_hop.Tie as tie
 

@@ -6,10 +6,11 @@ use mathlib.Core.Path.{_≡_, refl, sym, _∙_}
 use Prim.Native.Nat.{_+_, _-_, _≤_}
 use mathlib.Core.List.{[]}
 use Rattle.faces.specs.Set.{mostFaces}
-use Rattle.laws.specs.Loop.{turns, turns-turn, turns-end}
-use Rattle.laws.specs.Rows.{down}
-use Rattle.laws.specs.Tab.{without-out}
-use Rattle.routes.specs.View.{view-length, view-cut, view-without}
+use Rattle.laws.specs.Places.Loop.{turns}
+use Rattle.laws.specs.Laws.Loop.{turns-turn, turns-end}
+use Rattle.laws.specs.Places.Rows.{down}
+use Rattle.laws.specs.Laws.Tab.{without-out}
+use Rattle.routes.specs.Places.View.{view-length, view-cut, view-without}
 use Rattle.routes.proofs.remove.Statement.{statement}
 use Rattle.routes.proofs.remove.Tie as tie
 

@@ -6,8 +6,8 @@ use mathlib.Core.Path.{refl, sym, _∙_}
 use Rattle.faces.specs.Set.{mostFaces}
 use Rattle.records.specs.Class.{classOf}
 use Rattle.records.specs.Route.{withClass}
-use Rattle.routes.specs.View.{routeAt, view-length, view-cut, view-snoc, view-head}
-use Rattle.routes.specs.SettingLaws.{set-known, set-new, set-long, set-full, row-class, row-new}
+use Rattle.routes.specs.Places.View.{routeAt, view-length, view-cut, view-snoc, view-head}
+use Rattle.routes.specs.Laws.Setting.{set-known, set-new, set-long, set-full, row-class, row-new}
 use Rattle.routes.proofs.set.Statement.{statement}
 use Rattle.routes.proofs.set.Tie as tie
 

@@ -3,7 +3,7 @@
 use borrow.Author.Needs.{needs}
 use mathlib.Core.Path.{sym, _∙_}
 use Rattle.faces.specs.Set.{mostFaces}
-use Rattle.routes.specs.View.{view-length}
+use Rattle.routes.specs.Places.View.{view-length}
 use Rattle.routes.proofs.size.Statement.{statement}
 use Rattle.routes.proofs.size.Tie as tie
 

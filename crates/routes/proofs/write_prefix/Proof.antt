@@ -2,7 +2,7 @@
 -- Assumes nothing.
 use borrow.Author.Needs.{needs}
 use native.Mathlib.Omega.{arith}
-use Rattle.wire.specs.WriteLaws.{put-back}
+use Rattle.wire.specs.Laws.Write.{put-back}
 use Rattle.routes.proofs.write_prefix.Statement.{statement}
 use Rattle.routes.proofs.write_prefix.Tie as tie
 

@@ -5,7 +5,7 @@ use Prim.Native.Nat.{ℕ, _≤_}
 use mathlib.Core.List.{List}
 use lib.ListN.{length, take}
 use lib.Seq.{take-all, take-length}
-use Rattle.laws.specs.Loop.{from-zero}
+use Rattle.laws.specs.Laws.Loop.{from-zero}
 use Rattle.rows.proofs.part.Statement.{statement}
 use Rattle.rows.proofs.part.Tie as tie
 use Rattle.rows.proofs.part.Reads as reads

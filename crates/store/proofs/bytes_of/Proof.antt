@@ -2,7 +2,7 @@
 use borrow.Author.Needs.{needs}
 use native.Mathlib.Omega.{arith}
 use Rattle.records.specs.Slots.{given}
-use Rattle.store.specs.View.{storedAt, storedOf, dataOf, view-at, view-past}
+use Rattle.store.specs.Places.View.{storedAt, storedOf, dataOf, view-at, view-past}
 use Rattle.store.proofs.bytes_of.Statement.{statement}
 use Rattle.store.proofs.bytes_of.Tie as tie
 

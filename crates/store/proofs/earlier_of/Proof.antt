@@ -2,7 +2,7 @@
 use borrow.Author.Needs.{needs}
 use native.Mathlib.Omega.{arith}
 use Rattle.laws.specs.Pick.{pick}
-use Rattle.store.specs.Lookup.{earlier-alone, earlier-is}
+use Rattle.store.specs.Laws.Look.{earlier-alone, earlier-is}
 use Rattle.store.proofs.earlier_of.Statement.{statement}
 use Rattle.store.proofs.earlier_of.Tie as tie
 

@@ -1,7 +1,7 @@
 -- The row has room for the bytes, so they are written whole.
 use borrow.Author.Needs.{needs}
 use native.Mathlib.Omega.{arith}
-use Rattle.wire.specs.WriteLaws.{put-back}
+use Rattle.wire.specs.Laws.Write.{put-back}
 use Rattle.store.proofs.fill.Statement.{statement}
 use Rattle.store.proofs.fill.Tie as tie
 

@@ -3,11 +3,12 @@ use borrow.Author.Needs.{needs}
 use native.Mathlib.Omega.{arith}
 use mathlib.Core.Path.{_≡_, sym, ap, _∙_}
 use Prim.Native.Nat.{_-_}
-use Rattle.laws.specs.Tab.{indexOf}
-use Rattle.laws.specs.Loop.{from-zero, first, first-hit, first-miss, first-end}
+use Rattle.laws.specs.Lists.{indexOf}
+use Rattle.laws.specs.Laws.Loop.{from-zero, first-hit, first-miss, first-end}
+use Rattle.laws.specs.Places.Loop.{first}
 use Rattle.names.specs.Name.{sameBytes}
-use Rattle.store.specs.View.{storedAt, view, view-find}
-use Rattle.store.specs.Laws.{isNamed}
+use Rattle.store.specs.Places.View.{storedAt, view, view-find}
+use Rattle.store.specs.Places.Put.{isNamed}
 use Rattle.store.proofs.find.Statement.{statement}
 use Rattle.store.proofs.find.Tie as tie
 

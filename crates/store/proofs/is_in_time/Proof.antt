@@ -1,7 +1,7 @@
 -- A Data stored later than now is in time; any other by what is left of its freshness.
 use borrow.Author.Needs.{needs}
 use mathlib.Core.Path.{sym}
-use Rattle.store.specs.Lookup.{in-time-any, in-time-early, in-time-young}
+use Rattle.store.specs.Laws.Look.{in-time-any, in-time-early, in-time-young}
 use native.Mathlib.Omega.{arith}
 use Rattle.store.proofs.is_in_time.Statement.{statement}
 use Rattle.store.proofs.is_in_time.Tie as tie

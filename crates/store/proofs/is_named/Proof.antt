@@ -2,7 +2,7 @@
 use borrow.Author.Needs.{needs}
 use mathlib.Core.Path.{sym, ap, _∙_}
 use Rattle.names.specs.Name.{sameBytes, prefixOf}
-use Rattle.store.specs.Lookup.{answers-same, answers-prefix}
+use Rattle.store.specs.Laws.Look.{answers-same, answers-prefix}
 use Rattle.store.proofs.is_named.Statement.{statement}
 use Rattle.store.proofs.is_named.Tie as tie
 

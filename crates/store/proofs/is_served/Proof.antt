@@ -1,8 +1,8 @@
 -- Both tests of a lookup, the cheap one first.
 use borrow.Author.Needs.{needs}
 use mathlib.Core.Path.{sym, _∙_}
-use Rattle.store.specs.View.{storedAt}
-use Rattle.store.specs.Lookup.{serves-late, serves-named}
+use Rattle.store.specs.Places.View.{storedAt}
+use Rattle.store.specs.Laws.Look.{serves-late, serves-named}
 use Rattle.store.proofs.is_served.Statement.{statement}
 use Rattle.store.proofs.is_served.Tie as tie
 

@@ -3,8 +3,8 @@ use borrow.Author.Needs.{needs}
 use native.Mathlib.Omega.{arith}
 use borrow.Author.Tests.{lt-ltb, le-ltb}
 use mathlib.Core.Path.{sym}
-use Rattle.laws.specs.Pick.{pick-yes, pick-no}
-use Rattle.store.specs.Laws.{leaver}
+use Rattle.laws.specs.Laws.Pick.{pick-yes, pick-no}
+use Rattle.store.specs.Places.Put.{leaver}
 use Rattle.store.proofs.leaving.Statement.{statement}
 use Rattle.store.proofs.leaving.Tie as tie
 

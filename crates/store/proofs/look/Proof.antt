@@ -4,8 +4,9 @@ use native.Mathlib.Omega.{arith}
 use mathlib.Core.Path.{_≡_, sym, ap, _∙_}
 use Prim.Native.Nat.{_-_, _≤_}
 use Rattle.records.specs.Stored.{serves, earlier}
-use Rattle.store.specs.View.{view-length}
-use Rattle.store.specs.Lookup.{bestFrom, hitAt, best-end, best-taken, best-passed, best-all, place-of}
+use Rattle.store.specs.Places.View.{view-length}
+use Rattle.store.specs.Laws.Look.{bestFrom, best-end, best-taken, best-passed, best-all, place-of}
+use Rattle.store.specs.Places.Look.{hitAt}
 use Rattle.store.proofs.look.Statement.{statement}
 use Rattle.store.proofs.look.Tie as tie
 

@@ -2,7 +2,7 @@
 use borrow.Author.Needs.{needs}
 use mathlib.Core.Path.{ap, _∙_}
 use Rattle.packets.specs.Name.{nameOf}
-use Rattle.store.specs.View.{storedAt, storedOf, dataOf}
+use Rattle.store.specs.Places.View.{storedAt, storedOf, dataOf}
 use Rattle.store.proofs.name_at.Statement.{statement}
 use Rattle.store.proofs.name_at.Tie as tie
 

@@ -1,7 +1,7 @@
 -- Bytes that are too long change nothing. Else a place is freed, and row and head are written after the last Data.
 use borrow.Author.Needs.{needs}
 use native.Mathlib.Omega.{arith}
-use Rattle.store.specs.Laws.{put-long, put-short}
+use Rattle.store.specs.Laws.Put.{put-long, put-short}
 use Rattle.store.proofs.put.Statement.{statement}
 use Rattle.store.proofs.put.Tie as tie
 

@@ -1,7 +1,7 @@
 -- As many as the view has.
 use borrow.Author.Needs.{needs}
 use native.Mathlib.Omega.{arith}
-use Rattle.store.specs.View.{view-length}
+use Rattle.store.specs.Places.View.{view-length}
 use Rattle.store.proofs.size.Statement.{statement}
 use Rattle.store.proofs.size.Tie as tie
 

@@ -4,10 +4,11 @@ use native.Mathlib.Omega.{arith}
 use mathlib.Core.List.{[]}
 use mathlib.Core.Path.{_≡_, refl, sym, _∙_}
 use Prim.Native.Nat.{_-_, _+_, _≤_}
-use Rattle.laws.specs.Tab.{without-out}
-use Rattle.laws.specs.Rows.{down}
-use Rattle.laws.specs.Loop.{turns, turns-turn, turns-end}
-use Rattle.store.specs.View.{view-without, view-length, view-count}
+use Rattle.laws.specs.Laws.Tab.{without-out}
+use Rattle.laws.specs.Places.Rows.{down}
+use Rattle.laws.specs.Places.Loop.{turns}
+use Rattle.laws.specs.Laws.Loop.{turns-turn, turns-end}
+use Rattle.store.specs.Places.View.{view-without, view-length, view-count}
 use Rattle.store.proofs.take_out.Statement.{statement}
 use Rattle.store.proofs.take_out.Tie as tie
 

@@ -4,8 +4,8 @@ use native.Mathlib.Omega.{arith}
 use mathlib.Core.Path.{sym}
 use Prim.Native.Nat.{_+_, _≤_}
 use lib.ListN.{length}
-use Rattle.store.specs.View.{view, view-length}
-use Rattle.store.specs.Laws.{recent-last, touch-is}
+use Rattle.store.specs.Places.View.{view, view-length}
+use Rattle.store.specs.Laws.Put.{recent-last, touch-is}
 use Rattle.store.proofs.touch.Statement.{statement}
 use Rattle.store.proofs.touch.Tie as tie
 

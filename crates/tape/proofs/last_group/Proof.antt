@@ -2,7 +2,7 @@
 use borrow.Author.Needs.{needs}
 use native.Mathlib.Omega.{arith}
 use mathlib.Core.Path.{sym}
-use Rattle.tape.specs.NumberLaws.{group-fits, closed-alone, closed-zero, closed-is, closed-tenth, closed-large}
+use Rattle.tape.specs.Laws.Number.{group-fits, closed-alone, closed-zero, closed-is, closed-tenth, closed-large}
 use Rattle.tape.proofs.last_group.Statement.{statement}
 use Rattle.tape.proofs.last_group.Tie as tie
 

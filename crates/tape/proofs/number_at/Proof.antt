@@ -3,7 +3,7 @@ use borrow.Author.Needs.{needs}
 use native.Mathlib.Omega.{arith}
 use mathlib.Core.Path.{sym, _∙_}
 use Prim.Native.Nat.{_-_}
-use Rattle.tape.specs.NumberLaws.{Passing, unit-small, passing-none, passing-more, turn-fits, number-cut, number-long, number-last}
+use Rattle.tape.specs.Laws.Number.{Passing, unit-small, passing-none, passing-more, turn-fits, number-cut, number-long, number-last}
 use lib.ListN.{length}
 use Rattle.tape.proofs.number_at.Statement.{statement}
 use Rattle.tape.proofs.number_at.Tie as tie

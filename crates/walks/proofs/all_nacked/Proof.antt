@@ -8,7 +8,7 @@ use Rattle.entries.specs.Operations.{nacksIn}
 use Rattle.walks.specs.WalkLaws.{sentIn, nacksFrom, nacks-turn, nacks-open, nacks-end, view-nacks}
 use Rattle.walks.proofs.all_nacked.Statement.{statement}
 use Rattle.walks.proofs.all_nacked.Tie as tie
-use Rattle.faces.specs.WalkLaws.{Walks, walks, walk-less}
+use Rattle.faces.specs.Laws.Walk.{Walks, walks, walk-less}
 
 abbrev Inv-loop : tie.InvT-loop
 Inv-loop head recs reason₀ left₀ f₀ reason left f =

@@ -6,11 +6,11 @@ use lib.ListN.{getD}
 use Rattle.faces.specs.Set.{mostFaces}
 use Rattle.names.specs.Fingerprint.{fingerprint}
 use Rattle.records.specs.Line.{joinedAll}
-use Rattle.dead.specs.View as dead
+use Rattle.dead.specs.Places.View as dead
 use Rattle.walks.specs.WalkLaws.{sentIn, linesOf, lines-turn, lines-end, view-lines}
 use Rattle.walks.proofs.bury.Statement.{statement}
 use Rattle.walks.proofs.bury.Tie as tie
-use Rattle.faces.specs.WalkLaws.{Walks, walks, walk-less}
+use Rattle.faces.specs.Laws.Walk.{Walks, walks, walk-less}
 
 abbrev Inv-loop : tie.InvT-loop
 Inv-loop name head recs lines₀ start time own ring₀ left₀ f₀ lines ring left f =

@@ -4,14 +4,14 @@ use native.Mathlib.Omega.{arith}
 use mathlib.Core.Path.{_≡_, refl, sym, _∙_}
 use borrow.Author.Tests.{eq-eqb, ne-eqb}
 use lib.Dec.{eqb}
-use Rattle.laws.specs.Any.{anyOf}
+use Rattle.laws.specs.Lists.{anyOf}
 use Rattle.faces.specs.Set.{mostFaces}
 use Rattle.faces.specs.Slots.{slotsOf}
 use Rattle.records.specs.Slots.{held}
 use Rattle.walks.specs.WalkLaws.{word, columnAt, any-turn}
 use Rattle.walks.proofs.column_has.Statement.{statement}
 use Rattle.walks.proofs.column_has.Tie as tie
-use Rattle.faces.specs.WalkLaws.{Walks, walks, walk-less, walk-end}
+use Rattle.faces.specs.Laws.Walk.{Walks, walks, walk-less, walk-end}
 
 abbrev Inv-loop : tie.InvT-loop
 Inv-loop set recs column nonce left₀ f₀ left f =

@@ -9,7 +9,7 @@ use Rattle.records.specs.Slots.{given}
 use Rattle.walks.specs.WalkLaws.{sentIn, lessOf, timeOf, earliestIn, bestOf, least-start, least-turn, least-end, view-earliest}
 use Rattle.walks.proofs.earliest.Statement.{statement}
 use Rattle.walks.proofs.earliest.Tie as tie
-use Rattle.faces.specs.WalkLaws.{Walks, walks, walk-less}
+use Rattle.faces.specs.Laws.Walk.{Walks, walks, walk-less}
 
 abbrev Inv-loop : tie.InvT-loop
 Inv-loop head recs set best₀ left₀ f₀ best left f =

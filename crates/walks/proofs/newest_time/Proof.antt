@@ -10,7 +10,7 @@ use Rattle.entries.specs.Operations.{newestIn}
 use Rattle.walks.specs.WalkLaws.{sentIn, newer, newest-start, newest-turn, newest-end, view-newest}
 use Rattle.walks.proofs.newest_time.Statement.{statement}
 use Rattle.walks.proofs.newest_time.Tie as tie
-use Rattle.faces.specs.WalkLaws.{Walks, walks, walk-less, walk-end}
+use Rattle.faces.specs.Laws.Walk.{Walks, walks, walk-less, walk-end}
 
 abbrev Inv-loop : tie.InvT-loop
 Inv-loop head recs left₀ f₀ newest₀ left f newest =

@@ -5,7 +5,7 @@ use Rattle.faces.specs.Set.{mostFaces}
 use Rattle.walks.specs.WalkLaws.{Overs, overs-start, overs-turn, overs-end}
 use Rattle.walks.proofs.over_in.Statement.{statement}
 use Rattle.walks.proofs.over_in.Tie as tie
-use Rattle.faces.specs.WalkLaws.{Walks, walks, walk-less}
+use Rattle.faces.specs.Laws.Walk.{Walks, walks, walk-less}
 
 abbrev Inv-loop : tie.InvT-loop
 Inv-loop set recs time over₀ left₀ f₀ over left f = Walks mostFaces left f × Overs mostFaces time recs set left over

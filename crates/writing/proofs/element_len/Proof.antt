@@ -3,8 +3,8 @@
 use borrow.Author.Needs.{needs}
 use native.Mathlib.Omega.{arith}
 use mathlib.Core.Path.{_∙_}
-use Rattle.writing.specs.Size.{length-written}
-use Rattle.wire.specs.WriteLaws.{width-most}
+use Rattle.writing.specs.Laws.Size.{length-written}
+use Rattle.wire.specs.Laws.Write.{width-most}
 use Rattle.writing.proofs.element_len.Statement.{statement}
 use Rattle.writing.proofs.element_len.Tie as tie
 

@@ -3,8 +3,8 @@
 use borrow.Author.Needs.{needs}
 use native.Mathlib.Omega.{arith}
 use mathlib.Core.Path.{_∙_}
-use Rattle.writing.specs.WrittenLaws.{element-most, reason-most, request-most, nack-most}
-use Rattle.writing.specs.Size.{nack-parts}
+use Rattle.writing.specs.Laws.Written.{element-most, reason-most, request-most, nack-most}
+use Rattle.writing.specs.Laws.Size.{nack-parts}
 use Rattle.writing.specs.Written.{requestValue, requestBytes, reasonBytes}
 use Rattle.writing.proofs.nack_len.Statement.{statement}
 use Rattle.writing.proofs.nack_len.Tie as tie

@@ -3,10 +3,10 @@
 use borrow.Author.Needs.{needs}
 use native.Mathlib.Omega.{arith}
 use mathlib.Core.Path.{refl, _∙_}
-use Rattle.writing.specs.WrittenLaws.{element-most, flag-most, request-most}
-use Rattle.writing.specs.Size.{request-parts}
+use Rattle.writing.specs.Laws.Written.{element-most, flag-most, request-most}
+use Rattle.writing.specs.Laws.Size.{request-parts}
 use Rattle.wire.specs.Write.{bytesOf}
-use Rattle.wire.specs.WriteLaws.{length-bytesOf}
+use Rattle.wire.specs.Laws.Write.{length-bytesOf}
 use Rattle.writing.proofs.request_len.Statement.{statement}
 use Rattle.writing.proofs.request_len.Tie as tie
 

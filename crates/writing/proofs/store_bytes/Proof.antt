@@ -2,7 +2,7 @@
 -- Assumes nothing.
 use borrow.Author.Needs.{needs}
 use native.Mathlib.Omega.{arith}
-use Rattle.writing.specs.Stored.{put-next, put-full, stored-length}
+use Rattle.writing.specs.Laws.Stored.{put-next, put-full, stored-length}
 use Rattle.writing.proofs.store_bytes.Statement.{statement}
 use Rattle.writing.proofs.store_bytes.Tie as tie
 

@@ -1,7 +1,7 @@
 -- `store_cause` meets its contract: the head and then the NackReason are the Nack.
 -- Assumes nothing.
 use borrow.Author.Needs.{needs}
-use Rattle.writing.specs.Stored.{room-head, room-value, stored-element, stored-length}
+use Rattle.writing.specs.Laws.Stored.{room-head, room-value, stored-element, stored-length}
 use Rattle.writing.proofs.store_cause.Statement.{statement}
 use Rattle.writing.proofs.store_cause.Tie as tie
 

@@ -1,7 +1,7 @@
 -- `store_element` meets its contract: the head and then the value are the element.
 -- Assumes nothing.
 use mathlib.Core.Path.{refl}
-use Rattle.writing.specs.Stored.{room-head, room-value, stored-element, stored-length}
+use Rattle.writing.specs.Laws.Stored.{room-head, room-value, stored-element, stored-length}
 use Rattle.writing.proofs.store_element.Statement.{statement}
 use Rattle.writing.proofs.store_element.Tie as tie
 

@@ -1,6 +1,6 @@
 -- `store_flag` meets its contract: a flag that is set is a head that announces no value.
 -- Assumes nothing.
-use Rattle.writing.specs.Stored.{head-alone, stored-none, stored-length}
+use Rattle.writing.specs.Laws.Stored.{head-alone, stored-none, stored-length}
 use Rattle.writing.specs.Written.{flag}
 use Rattle.laws.specs.Pick.{pick}
 use Rattle.writing.proofs.store_flag.Statement.{statement}

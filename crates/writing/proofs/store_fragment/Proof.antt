@@ -2,9 +2,9 @@
 -- Assumes nothing.
 use borrow.Author.Needs.{needs}
 use native.Mathlib.Omega.{arith}
-use Rattle.writing.specs.Stored.{room-head, room-value, stored-element, stored-length}
+use Rattle.writing.specs.Laws.Stored.{room-head, room-value, stored-element, stored-length}
 use Rattle.writing.specs.Written.{requestBytes}
-use Rattle.writing.specs.WrittenLaws.{request-most}
+use Rattle.writing.specs.Laws.Written.{request-most}
 use Rattle.writing.proofs.store_fragment.Statement.{statement}
 use Rattle.writing.proofs.store_fragment.Tie as tie
 

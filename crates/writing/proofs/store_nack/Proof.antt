@@ -1,8 +1,8 @@
 -- `store_nack` meets its contract: the head and then the value are the Nack.
 -- Assumes nothing.
 use borrow.Author.Needs.{needs}
-use Rattle.writing.specs.Stored.{room-head, room-value, stored-element, stored-length}
-use Rattle.writing.specs.Size.{nack-is}
+use Rattle.writing.specs.Laws.Stored.{room-head, room-value, stored-element, stored-length}
+use Rattle.writing.specs.Laws.Size.{nack-is}
 use Rattle.writing.proofs.store_nack.Statement.{statement}
 use Rattle.writing.proofs.store_nack.Tie as tie
 

@@ -1,8 +1,8 @@
 -- `store_nonce` meets its contract: the array is the four bytes of the nonce.
 -- Assumes nothing.
 use borrow.Author.Needs.{needs}
-use Rattle.writing.specs.Stored.{stored-length}
-use Rattle.writing.specs.WrittenLaws.{nonce-bytes}
+use Rattle.writing.specs.Laws.Stored.{stored-length}
+use Rattle.writing.specs.Laws.Written.{nonce-bytes}
 use Rattle.writing.proofs.store_nonce.Statement.{statement}
 use Rattle.writing.proofs.store_nonce.Tie as tie
 

@@ -1,7 +1,7 @@
 -- `store_reason` meets its contract: a NackReason that is not left out is an element of one byte.
 -- Assumes nothing.
 use borrow.Author.Needs.{needs}
-use Rattle.writing.specs.Stored.{stored-none, stored-length}
+use Rattle.writing.specs.Laws.Stored.{stored-none, stored-length}
 use Rattle.writing.specs.Written.{reasonBytes}
 use Rattle.laws.specs.Pick.{pick}
 use borrow.Author.Tests.{eq-eqb, ne-eqb}

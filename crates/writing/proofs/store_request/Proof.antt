@@ -1,7 +1,7 @@
 -- `store_request` meets its contract: the head and then the value are the Interest.
 -- Assumes nothing.
 use borrow.Author.Needs.{needs}
-use Rattle.writing.specs.Stored.{room-head, room-value, stored-element, stored-length}
+use Rattle.writing.specs.Laws.Stored.{room-head, room-value, stored-element, stored-length}
 use Rattle.writing.specs.Written.{requestBytes}
 use Rattle.writing.proofs.store_request.Statement.{statement}
 use Rattle.writing.proofs.store_request.Tie as tie

@@ -1,6 +1,6 @@
 -- `store_request_value` meets its contract: the value is its four parts, one after the other.
 -- Assumes nothing.
-use Rattle.writing.specs.Stored.{room-first, room-then, stored-then, stored-length}
+use Rattle.writing.specs.Laws.Stored.{room-first, room-then, stored-then, stored-length}
 use Rattle.writing.specs.Written.{requestValue}
 use Rattle.writing.proofs.store_request_value.Statement.{statement}
 use Rattle.writing.proofs.store_request_value.Tie as tie

@@ -3,9 +3,9 @@
 use borrow.Author.Needs.{needs}
 use native.Mathlib.Omega.{arith}
 use mathlib.Core.Path.{refl}
-use Rattle.writing.specs.Stored.{rest-fits, rest-short, stored-length, next-put, full-put}
-use Rattle.writing.specs.WrittenLaws.{nack-most}
-use Rattle.writing.specs.Size.{nack-is}
+use Rattle.writing.specs.Laws.Stored.{rest-fits, rest-short, stored-length, next-put, full-put}
+use Rattle.writing.specs.Laws.Written.{nack-most}
+use Rattle.writing.specs.Laws.Size.{nack-is}
 use Rattle.writing.proofs.write_nack.Statement.{statement}
 use Rattle.writing.proofs.write_nack.Tie as tie
 

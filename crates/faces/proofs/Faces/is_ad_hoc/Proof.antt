@@ -1,7 +1,7 @@
 -- A face that is open and not point-to-point is asked of the set of the ad hoc ones.
 use borrow.Author.Needs.{needs}
 use mathlib.Core.Path.{sym, _∙_}
-use Rattle.faces.specs.ViewLaws.{asked-adhoc}
+use Rattle.faces.specs.Laws.View.{asked-adhoc}
 use Rattle.faces.proofs.Faces.is_ad_hoc.Statement.{statement}
 use Rattle.faces.proofs.Faces.is_ad_hoc.Tie as tie
 

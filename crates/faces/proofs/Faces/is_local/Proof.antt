@@ -1,7 +1,7 @@
 -- A face that is open is asked of the set of the local ones.
 use borrow.Author.Needs.{needs}
 use mathlib.Core.Path.{sym, _∙_}
-use Rattle.faces.specs.ViewLaws.{asked-local}
+use Rattle.faces.specs.Laws.View.{asked-local}
 use Rattle.faces.proofs.Faces.is_local.Statement.{statement}
 use Rattle.faces.proofs.Faces.is_local.Tie as tie
 

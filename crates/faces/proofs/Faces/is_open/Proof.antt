@@ -1,6 +1,6 @@
 -- The set of the open faces has the answer.
 use borrow.Author.Needs.{needs}
-use Rattle.faces.specs.ViewLaws.{asked-open}
+use Rattle.faces.specs.Laws.View.{asked-open}
 use Rattle.faces.proofs.Faces.is_open.Statement.{statement}
 use Rattle.faces.proofs.Faces.is_open.Tie as tie
 

@@ -1,7 +1,7 @@
 -- A face that is open is asked of the set of the point-to-point ones.
 use borrow.Author.Needs.{needs}
 use mathlib.Core.Path.{sym, _∙_}
-use Rattle.faces.specs.ViewLaws.{asked-peer}
+use Rattle.faces.specs.Laws.View.{asked-peer}
 use Rattle.faces.proofs.Faces.is_peer.Statement.{statement}
 use Rattle.faces.proofs.Faces.is_peer.Tie as tie
 

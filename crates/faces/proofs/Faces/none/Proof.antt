@@ -1,6 +1,6 @@
 -- The empty set has no digit.
-use Rattle.faces.specs.View.{view-none}
-use Rattle.laws.specs.Digits.{member-no, digit-zero}
+use Rattle.faces.specs.Places.View.{view-none}
+use Rattle.laws.specs.Laws.Digits.{member-no, digit-zero}
 use Rattle.faces.proofs.Faces.none.Statement.{statement}
 use Rattle.faces.proofs.Faces.none.Tie as tie
 

@@ -1,7 +1,7 @@
 -- The set of the open faces loses the face.
 use borrow.Author.Needs.{needs}
 use mathlib.Core.Path.{refl}
-use Rattle.faces.specs.ViewLaws.{with-closed}
+use Rattle.faces.specs.Laws.View.{with-closed}
 use Rattle.faces.proofs.Faces.with_closed.Statement.{statement}
 use Rattle.faces.proofs.Faces.with_closed.Tie as tie
 

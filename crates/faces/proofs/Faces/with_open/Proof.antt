@@ -2,9 +2,9 @@
 use borrow.Author.Needs.{needs}
 use mathlib.Core.Path.{refl}
 use mathlib.Core.Bool.{true, false}
-use Rattle.faces.specs.ViewLaws.{with-open}
+use Rattle.faces.specs.Laws.View.{with-open}
 use Rattle.laws.specs.Pick.{pick}
-use Rattle.faces.specs.View.{linkOf}
+use Rattle.faces.specs.Operations.{linkOf}
 use Rattle.faces.proofs.Faces.with_open.Statement.{statement}
 use Rattle.faces.proofs.Faces.with_open.Tie as tie
 

@@ -4,9 +4,9 @@ use native.Mathlib.Omega.{arith}
 use mathlib.Core.Path.{_≡_, sym, _∙_}
 use Prim.Native.Nat.{_-_, _≤_}
 use Rattle.names.specs.Name.{components, counted}
-use Rattle.names.specs.NameLaws.{judgedFrom, judged-first, judged-end, judged-fault, judged-high, judged-more}
+use Rattle.names.specs.Laws.Name.{judgedFrom, judged-first, judged-end, judged-fault, judged-high, judged-more}
 use Rattle.laws.specs.Pick.{pick}
-use Rattle.wire.specs.Within.{read-is}
+use Rattle.wire.specs.Laws.Within.{read-is}
 use lib.ListN.{length, drop}
 use Rattle.names.proofs.component.count_components.Statement.{statement}
 use Rattle.names.proofs.component.count_components.Tie as tie

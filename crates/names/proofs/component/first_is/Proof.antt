@@ -3,8 +3,8 @@ use borrow.Author.Needs.{needs}
 use native.Mathlib.Omega.{arith}
 use native.Mathlib.Nat.{add-sub-cancel-left}
 use mathlib.Core.Path.{sym, _∙_}
-use Rattle.names.specs.NameLaws.{first-none, first-other, first-word}
-use Rattle.wire.specs.Within.{read-is}
+use Rattle.names.specs.Laws.Name.{first-none, first-other, first-word}
+use Rattle.wire.specs.Laws.Within.{read-is}
 use Rattle.names.proofs.component.first_is.Statement.{statement}
 use Rattle.names.proofs.component.first_is.Tie as tie
 

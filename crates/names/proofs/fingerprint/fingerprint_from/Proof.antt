@@ -1,6 +1,6 @@
 -- The name by one call, the nonce by a step for each of its bytes.
 use borrow.Author.Needs.{needs}
-use Rattle.names.specs.FingerprintLaws.{fingerprint-steps}
+use Rattle.names.specs.Laws.Fingerprint.{fingerprint-steps}
 use Rattle.names.proofs.fingerprint.fingerprint_from.Statement.{statement}
 use Rattle.names.proofs.fingerprint.fingerprint_from.Tie as tie
 

@@ -3,7 +3,7 @@ use borrow.Author.Needs.{needs}
 use mathlib.Core.Path.{_≡_, sym, _∙_}
 use Prim.Native.Nat.{_-_, _≤_}
 use Rattle.names.specs.Fingerprint.{fnv}
-use Rattle.names.specs.FingerprintLaws.{fnv-more, fnv-end}
+use Rattle.names.specs.Laws.Fingerprint.{fnv-more, fnv-end}
 use lib.ListN.{length, drop}
 use Rattle.names.proofs.fingerprint.fnv_from.Statement.{statement}
 use Rattle.names.proofs.fingerprint.fnv_from.Tie as tie

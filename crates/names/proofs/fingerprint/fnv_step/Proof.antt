@@ -2,7 +2,7 @@
 use borrow.Author.Needs.{needs}
 use native.Mathlib.Omega.{arith}
 use mathlib.Core.Path.{_∙_}
-use Rattle.names.specs.FingerprintLaws.{stepped-xor}
+use Rattle.names.specs.Laws.Fingerprint.{stepped-xor}
 use Rattle.names.proofs.fingerprint.fnv_step.Statement.{statement}
 use Rattle.names.proofs.fingerprint.fnv_step.Tie as tie
 

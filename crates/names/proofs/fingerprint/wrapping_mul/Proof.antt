@@ -1,7 +1,7 @@
 -- Each product of halves fits; their sum is the law of the product by columns.
 use borrow.Author.Needs.{needs}
 use mathlib.Core.Path.{_∙_}
-use Rattle.names.specs.FingerprintLaws.{product-below, product}
+use Rattle.names.specs.Laws.Fingerprint.{product-below, product}
 use Rattle.names.proofs.fingerprint.wrapping_mul.Statement.{statement}
 use Rattle.names.proofs.fingerprint.wrapping_mul.Tie as tie
 

@@ -4,9 +4,9 @@ use native.Mathlib.Omega.{arith}
 use mathlib.Core.Path.{_≡_, refl, sym, _∙_}
 use Prim.Native.Nat.{_-_}
 use Rattle.names.specs.Order.{canonical, canonicalOrder, andThen}
-use Rattle.names.specs.OrderLaws.{componentsFrom, both-end, first-ends, second-ends, both-go-on}
+use Rattle.names.specs.Laws.Order.{componentsFrom, both-end, first-ends, second-ends, both-go-on}
 use lib.ListN.{length}
-use Rattle.wire.specs.Within.{read-is}
+use Rattle.wire.specs.Laws.Within.{read-is}
 use Rattle.names.proofs.order.compare.Statement.{statement}
 use Rattle.names.proofs.order.compare.Tie as tie
 

@@ -4,7 +4,7 @@ use native.Mathlib.Omega.{arith}
 use mathlib.Core.Path.{_≡_, sym, _∙_}
 use Prim.Native.Nat.{_-_, _≤_}
 use Rattle.names.specs.Order.{lexical}
-use Rattle.names.specs.OrderLaws.{lexical-less, lexical-more, lexical-next, lexical-longer, lexical-shorter, lexical-end}
+use Rattle.names.specs.Laws.Order.{lexical-less, lexical-more, lexical-next, lexical-longer, lexical-shorter, lexical-end}
 use lib.ListN.{length, drop}
 use Rattle.names.proofs.order.compare_bytes.Statement.{statement}
 use Rattle.names.proofs.order.compare_bytes.Tie as tie

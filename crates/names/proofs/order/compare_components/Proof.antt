@@ -2,7 +2,7 @@
 use borrow.Author.Needs.{needs}
 use native.Mathlib.Omega.{arith}
 use mathlib.Core.Path.{sym, _∙_}
-use Rattle.names.specs.OrderLaws.{type-less, type-more, length-less, length-more, bytes-decide}
+use Rattle.names.specs.Laws.Order.{type-less, type-more, length-less, length-more, bytes-decide}
 use native.Mathlib.Nat.{add-sub-cancel-left}
 use Rattle.names.proofs.order.compare_components.Statement.{statement}
 use Rattle.names.proofs.order.compare_components.Tie as tie

@@ -2,7 +2,7 @@
 use borrow.Author.Needs.{needs}
 use mathlib.Core.Path.{sym}
 use Rattle.names.specs.Name.{prefixOf}
-use Rattle.names.specs.SameLaws.{prefix-longer}
+use Rattle.names.specs.Laws.Same.{prefix-longer}
 use native.Mathlib.Nat.{sub-zero}
 use Rattle.names.proofs.order.is_prefix.Statement.{statement}
 use Rattle.names.proofs.order.is_prefix.Tie as tie

@@ -4,7 +4,7 @@ use native.Mathlib.Omega.{arith}
 use mathlib.Core.Path.{_≡_, sym, _∙_}
 use Prim.Native.Nat.{_-_, _≤_}
 use Rattle.names.specs.Name.{sameBytes}
-use Rattle.names.specs.SameLaws.{same-lengths, same-step, same-differ, same-end}
+use Rattle.names.specs.Laws.Same.{same-lengths, same-step, same-differ, same-end}
 use lib.ListN.{length, drop}
 use Rattle.names.proofs.order.same.Statement.{statement}
 use Rattle.names.proofs.order.same.Tie as tie

@@ -1,8 +1,9 @@
 -- One test after the other, as in the definition.
 use borrow.Author.Needs.{needs}
 use borrow.Author.Tests.{lt-ltb, le-ltb, le-leb, lt-leb, eq-eqb, ne-eqb}
-use Rattle.packets.specs.BareLaws.{found-length, found-moved, found-fits}
-use Rattle.packets.specs.Bare.{sized, namedData, packetIn}
+use Rattle.packets.specs.Laws.Bare.{found-length, found-moved, found-fits}
+use Rattle.packets.specs.Bare.{sized, namedData}
+use Rattle.packets.specs.Places.Bare.{packetIn}
 use Rattle.laws.specs.Pick.{pick}
 use Rattle.packets.proofs.bare.counted_data.Statement.{statement}
 use Rattle.packets.proofs.bare.counted_data.Tie as tie

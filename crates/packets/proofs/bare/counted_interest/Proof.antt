@@ -1,8 +1,9 @@
 -- One test after the other, as in the definition.
 use borrow.Author.Needs.{needs}
 use borrow.Author.Tests.{lt-ltb, le-ltb, le-leb, lt-leb, eq-eqb, ne-eqb}
-use Rattle.packets.specs.BareLaws.{found-said, found-length, nacked-found}
-use Rattle.packets.specs.Bare.{sized, namedInterest, packetIn}
+use Rattle.packets.specs.Laws.Bare.{found-said, found-length, nacked-found}
+use Rattle.packets.specs.Bare.{sized, namedInterest}
+use Rattle.packets.specs.Places.Bare.{packetIn}
 use Rattle.laws.specs.Pick.{pick}
 use Rattle.packets.proofs.bare.counted_interest.Statement.{statement}
 use Rattle.packets.proofs.bare.counted_interest.Tie as tie

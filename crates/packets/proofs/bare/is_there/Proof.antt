@@ -1,7 +1,7 @@
 -- By the test.
 use borrow.Author.Needs.{needs}
 use borrow.Author.Tests.{lt-ltb, le-ltb, le-leb, lt-leb, eq-eqb, ne-eqb}
-use Rattle.packets.specs.BareLaws.{thereAt}
+use Rattle.packets.specs.Places.Bare.{thereAt}
 use Rattle.laws.specs.Pick.{pick}
 use Rattle.packets.proofs.bare.is_there.Statement.{statement}
 use Rattle.packets.proofs.bare.is_there.Tie as tie

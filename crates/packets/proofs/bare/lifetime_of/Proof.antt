@@ -1,7 +1,7 @@
 -- By the two tests.
 use borrow.Author.Needs.{needs}
 use borrow.Author.Tests.{lt-ltb, le-ltb, le-leb, lt-leb, eq-eqb, ne-eqb}
-use Rattle.packets.specs.BareLaws.{lifetimeAt}
+use Rattle.packets.specs.Places.Bare.{lifetimeAt}
 use Rattle.packets.specs.Bare.{capped}
 use Rattle.laws.specs.Pick.{pick}
 use Rattle.packets.proofs.bare.lifetime_of.Statement.{statement}

@@ -1,7 +1,7 @@
 -- Each part is what its function ensures of a place that the walk found; together they are one law.
 use borrow.Author.Needs.{needs}
 use mathlib.Core.Path.{sym}
-use Rattle.packets.specs.BareLaws.{found-fits, interest-found}
+use Rattle.packets.specs.Laws.Bare.{found-fits, interest-found}
 use Rattle.packets.proofs.bare.made.Statement.{statement}
 use Rattle.packets.proofs.bare.made.Tie as tie
 

@@ -1,8 +1,9 @@
 -- By what the Name says.
 use borrow.Author.Needs.{needs}
 use mathlib.Core.Path.{_∙_}
-use Rattle.packets.specs.BareLaws.{found-says}
-use Rattle.packets.specs.Bare.{namedInterest, packetIn}
+use Rattle.packets.specs.Laws.Bare.{found-says}
+use Rattle.packets.specs.Bare.{namedInterest}
+use Rattle.packets.specs.Places.Bare.{packetIn}
 use Rattle.packets.proofs.bare.named_interest.Statement.{statement}
 use Rattle.packets.proofs.bare.named_interest.Tie as tie
 

@@ -3,11 +3,12 @@ use borrow.Author.Needs.{needs}
 use native.Mathlib.Omega.{arith}
 use borrow.Author.Tests.{lt-ltb, le-ltb, le-leb, lt-leb, eq-eqb, ne-eqb}
 use mathlib.Core.Path.{sym, _∙_}
-use Rattle.packets.specs.BareLaws.{bare-bad, bare-longer, bare-kind, bare-ends}
-use Rattle.packets.specs.Bare.{kindRead, dataUnless, packetIn}
+use Rattle.packets.specs.Laws.Bare.{bare-bad, bare-longer, bare-kind, bare-ends}
+use Rattle.packets.specs.Bare.{kindRead, dataUnless}
+use Rattle.packets.specs.Places.Bare.{packetIn}
 use Rattle.laws.specs.Pick.{pick}
 use native.Mathlib.Nat.{add-sub-cancel-left}
-use Rattle.wire.specs.Within.{read-is}
+use Rattle.wire.specs.Laws.Within.{read-is}
 use Rattle.packets.proofs.bare.read_bare.Statement.{statement}
 use Rattle.packets.proofs.bare.read_bare.Tie as tie
 

@@ -4,8 +4,10 @@ use native.Mathlib.Omega.{arith}
 use borrow.Author.Tests.{lt-ltb, le-ltb, le-leb, lt-leb, eq-eqb, ne-eqb}
 use mathlib.Core.Path.{_∙_}
 use Prim.Native.Nat.{ℕ}
-use Rattle.packets.specs.BareLaws.{IsFound, found-said, found-missing, found-bytes, found-freshness}
-use Rattle.packets.specs.Bare.{dataValue, dataRead, packetIn}
+use Rattle.packets.specs.Places.Bare.{IsFound}
+use Rattle.packets.specs.Laws.Bare.{found-said, found-missing, found-bytes, found-freshness}
+use Rattle.packets.specs.Bare.{dataValue, dataRead}
+use Rattle.packets.specs.Places.Bare.{packetIn}
 use Rattle.laws.specs.Pick.{pick}
 use Rattle.grammar.specs.Table.{dat, meta}
 use Rattle.grammar.specs.Walk.{walked}

@@ -1,8 +1,10 @@
 -- The tests of the places are those of the fields that the walk found.
 use borrow.Author.Needs.{needs}
 use borrow.Author.Tests.{lt-ltb, le-ltb, le-leb, lt-leb, eq-eqb, ne-eqb}
-use Rattle.packets.specs.BareLaws.{IsFound, found-said, found-missing}
-use Rattle.packets.specs.Bare.{interestRead, packetIn}
+use Rattle.packets.specs.Places.Bare.{IsFound}
+use Rattle.packets.specs.Laws.Bare.{found-said, found-missing}
+use Rattle.packets.specs.Bare.{interestRead}
+use Rattle.packets.specs.Places.Bare.{packetIn}
 use Rattle.laws.specs.Pick.{pick}
 use Rattle.grammar.specs.Table.{interest}
 use Rattle.packets.proofs.bare.read_interest.Statement.{statement}

@@ -1,7 +1,7 @@
 -- By the test.
 use borrow.Author.Needs.{needs}
 use borrow.Author.Tests.{lt-ltb, le-ltb, le-leb, lt-leb, eq-eqb, ne-eqb}
-use Rattle.packets.specs.BareLaws.{movedBy}
+use Rattle.packets.specs.Places.Bare.{movedBy}
 use Rattle.laws.specs.Pick.{pick}
 use Rattle.packets.proofs.bare.shifted.Statement.{statement}
 use Rattle.packets.proofs.bare.shifted.Tie as tie

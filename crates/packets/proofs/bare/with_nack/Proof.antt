@@ -1,6 +1,6 @@
 -- By the two cases.
 use borrow.Author.Needs.{needs}
-use Rattle.packets.specs.BareLaws.{nackedPacket}
+use Rattle.packets.specs.Places.Bare.{nackedPacket}
 use Rattle.packets.proofs.bare.with_nack.Statement.{statement}
 use Rattle.packets.proofs.bare.with_nack.Tie as tie
 

@@ -1,7 +1,7 @@
 -- Each return is what the definition picks under the test on the way to it.
 use borrow.Author.Needs.{needs}
 use borrow.Author.Tests.{lt-ltb, le-ltb, le-leb, lt-leb, eq-eqb, ne-eqb}
-use Rattle.packets.specs.HeaderLaws.{nackAt}
+use Rattle.packets.specs.Places.Header.{nackAt}
 use Rattle.laws.specs.Pick.{pick}
 use Rattle.packets.proofs.header.nack_of.Statement.{statement}
 use Rattle.packets.proofs.header.nack_of.Tie as tie

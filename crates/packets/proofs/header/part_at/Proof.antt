@@ -2,7 +2,7 @@
 use borrow.Author.Needs.{needs}
 use native.Mathlib.Omega.{arith}
 use mathlib.Core.Path.{sym}
-use Rattle.packets.specs.PartLaws.{part-is, part-none}
+use Rattle.packets.specs.Laws.Part.{part-is, part-none}
 use native.Mathlib.Nat.{add-sub-cancel-left}
 use Rattle.packets.proofs.header.part_at.Statement.{statement}
 use Rattle.packets.proofs.header.part_at.Tie as tie

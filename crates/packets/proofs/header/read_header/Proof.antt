@@ -2,8 +2,8 @@
 use borrow.Author.Needs.{needs}
 use native.Mathlib.Omega.{arith}
 use mathlib.Core.Path.{sym, _∙_}
-use Rattle.packets.specs.HeaderLaws.{header-long, header-bad, header-more, header-unknown, header-lp-read, header-bare}
-use Rattle.wire.specs.Within.{read-is, value-length}
+use Rattle.packets.specs.Laws.Header.{header-long, header-bad, header-more, header-unknown, header-lp-read, header-bare}
+use Rattle.wire.specs.Laws.Within.{read-is, value-length}
 use native.Mathlib.Nat.{add-sub-cancel-left}
 use Rattle.packets.proofs.header.read_header.Statement.{statement}
 use Rattle.packets.proofs.header.read_header.Tie as tie

@@ -1,8 +1,8 @@
 -- One law for each outcome, over what the walk w over s and the walk k over the Nack's bytes found.
 use borrow.Author.Needs.{needs}
 use native.Mathlib.Omega.{arith}
-use Rattle.packets.specs.HeaderLaws.{lp-bad, lp-nack-bad, lp-none, lp-bare}
-use Rattle.packets.specs.PartLaws.{found-inside}
+use Rattle.packets.specs.Laws.Header.{lp-bad, lp-nack-bad, lp-none, lp-bare}
+use Rattle.packets.specs.Laws.Part.{found-inside}
 use Rattle.grammar.specs.Table.{lp}
 use Rattle.packets.proofs.header.read_lp.Statement.{statement}
 use Rattle.packets.proofs.header.read_lp.Tie as tie

@@ -1,7 +1,7 @@
 -- The number is the one that is read, or 0 where none is.
 use borrow.Author.Needs.{needs}
 use mathlib.Core.Path.{sym, _∙_}
-use Rattle.packets.specs.PartLaws.{whole-bad, whole-is}
+use Rattle.packets.specs.Laws.Part.{whole-bad, whole-is}
 use Rattle.packets.proofs.header.whole_of.Statement.{statement}
 use Rattle.packets.proofs.header.whole_of.Tie as tie
 

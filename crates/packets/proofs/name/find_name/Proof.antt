@@ -2,8 +2,8 @@
 use borrow.Author.Needs.{needs}
 use native.Mathlib.Omega.{arith}
 use mathlib.Core.Path.{sym, _∙_}
-use Rattle.packets.specs.FindLaws.{name-none, name-at}
-use Rattle.wire.specs.Within.{read-is}
+use Rattle.packets.specs.Laws.Find.{name-none, name-at}
+use Rattle.wire.specs.Laws.Within.{read-is}
 use native.Mathlib.Nat.{add-sub-cancel-left}
 use Rattle.packets.proofs.name.find_name.Statement.{statement}
 use Rattle.packets.proofs.name.find_name.Tie as tie

@@ -3,8 +3,8 @@ use borrow.Author.Needs.{needs}
 use native.Mathlib.Omega.{arith}
 use mathlib.Core.Path.{sym, _∙_}
 use Prim.Native.Nat.{_-_}
-use Rattle.packets.specs.FindLaws.{Finding, finding-start, finding-end, finding-bad, finding-name, finding-more}
-use Rattle.wire.specs.Within.{read-is}
+use Rattle.packets.specs.Laws.Find.{Finding, finding-start, finding-end, finding-bad, finding-name, finding-more}
+use Rattle.wire.specs.Laws.Within.{read-is}
 use lib.ListN.{length}
 use native.Mathlib.Nat.{add-sub-cancel-left}
 use Rattle.packets.proofs.name.name_in.Statement.{statement}

@@ -1,6 +1,6 @@
 -- Eight bytes are two halves.
 use borrow.Author.Needs.{needs}
-use Rattle.wire.specs.ReadLaws.{halves}
+use Rattle.wire.specs.Laws.Read.{halves}
 use Rattle.wire.proofs.read.eight_at.Statement.{statement}
 use Rattle.wire.proofs.read.eight_at.Tie as tie
 

@@ -1,6 +1,6 @@
 -- Four bytes are two halves.
 use borrow.Author.Needs.{needs}
-use Rattle.wire.specs.ReadLaws.{halves}
+use Rattle.wire.specs.Laws.Read.{halves}
 use Rattle.wire.proofs.read.four_at.Statement.{statement}
 use Rattle.wire.proofs.read.four_at.Tie as tie
 

@@ -2,7 +2,7 @@
 use borrow.Author.Needs.{needs}
 use native.Mathlib.Omega.{arith}
 use Prim.Native.Nat.{_+_}
-use Rattle.wire.specs.ReadLaws.{two-is}
+use Rattle.wire.specs.Laws.Read.{two-is}
 use Rattle.wire.proofs.read.two_at.Statement.{statement}
 use Rattle.wire.proofs.read.two_at.Tie as tie
 

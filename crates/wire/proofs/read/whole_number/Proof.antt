@@ -2,9 +2,9 @@
 use borrow.Author.Needs.{needs}
 use native.Mathlib.Omega.{arith}
 use mathlib.Core.Path.{refl, ap, _∙_}
-use Rattle.wire.specs.ReadLaws.{one-is, whole-is, whole-not}
+use Rattle.wire.specs.Laws.Read.{one-is, whole-is, whole-not}
 use Rattle.wire.specs.Number.{big}
-use Rattle.wire.specs.Place.{isWhole}
+use Rattle.wire.specs.Number.{isWhole}
 use lib.Seq.{take-all}
 use Rattle.wire.proofs.read.whole_number.Statement.{statement}
 use Rattle.wire.proofs.read.whole_number.Tie as tie

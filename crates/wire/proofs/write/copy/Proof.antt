@@ -5,7 +5,7 @@ use Prim.Native.Nat.{_-_}
 use native.Mathlib.Omega.{arith}
 use borrow.Author.Needs.{needs}
 use lib.ListN.{length}
-use Rattle.laws.specs.Writes.{Copied, copied-none, copied-more, copied-all, copied-length}
+use Rattle.laws.specs.Laws.Writes.{Copied, copied-none, copied-more, copied-all, copied-length}
 use Rattle.wire.proofs.write.copy.Statement.{statement}
 use Rattle.wire.proofs.write.copy.Tie as tie
 

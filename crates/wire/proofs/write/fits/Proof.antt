@@ -1,6 +1,6 @@
 -- `fits` meets its contract: past the end there is no room, and before it what is left is compared.
 -- Assumes nothing.
-use Rattle.wire.specs.WriteLaws.{no-room, room-left}
+use Rattle.wire.specs.Laws.Write.{no-room, room-left}
 use Rattle.wire.proofs.write.fits.Statement.{statement}
 use Rattle.wire.proofs.write.fits.Tie as tie
 

@@ -4,7 +4,7 @@ use mathlib.Core.Path.{refl, sym, _∙_}
 use native.Mathlib.Omega.{arith}
 use borrow.Author.Needs.{needs}
 use borrow.Author.Tests.{leb-true}
-use Rattle.wire.specs.WriteLaws.{wrote-fits, wrote-full}
+use Rattle.wire.specs.Laws.Write.{wrote-fits, wrote-full}
 use Rattle.wire.proofs.write.put_bytes.Statement.{statement}
 use Rattle.wire.proofs.write.put_bytes.Tie as tie
 

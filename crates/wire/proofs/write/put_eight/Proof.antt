@@ -1,7 +1,7 @@
 -- `put_eight` meets its contract: its two calls store the two halves of `bytesOf 8`.
 -- Assumes nothing.
 use borrow.Author.Needs.{needs}
-use Rattle.wire.specs.WriteLaws.{halves-stored}
+use Rattle.wire.specs.Laws.Write.{halves-stored}
 use Rattle.wire.proofs.write.put_eight.Statement.{statement}
 use Rattle.wire.proofs.write.put_eight.Tie as tie
 

@@ -5,7 +5,7 @@ use mathlib.Core.Path.{sym, _∙_}
 use native.Mathlib.Omega.{arith}
 use borrow.Author.Needs.{needs}
 use borrow.Author.Tests.{leb-true}
-use Rattle.wire.specs.WriteLaws.{width-most, length-headOf, head-stored, wrote-fits, wrote-full}
+use Rattle.wire.specs.Laws.Write.{width-most, length-headOf, head-stored, wrote-fits, wrote-full}
 use Rattle.wire.proofs.write.put_head.Statement.{statement}
 use Rattle.wire.proofs.write.put_head.Tie as tie
 

@@ -5,7 +5,7 @@ use native.Mathlib.Omega.{arith}
 use borrow.Author.Needs.{needs}
 use lib.ListN.{length, length-set}
 use lib.Seq.{length-sets}
-use Rattle.wire.specs.WriteLaws.{form-one, form-three, form-five, form-nine, short-stored, long-stored}
+use Rattle.wire.specs.Laws.Write.{form-one, form-three, form-five, form-nine, short-stored, long-stored}
 use Rattle.wire.proofs.write.put_shortest.Statement.{statement}
 use Rattle.wire.proofs.write.put_shortest.Tie as tie
 

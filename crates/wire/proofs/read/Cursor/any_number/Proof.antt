@@ -2,7 +2,7 @@
 use borrow.Author.Needs.{needs}
 use native.Mathlib.Omega.{arith}
 use mathlib.Core.Path.{sym, _∙_}
-use Rattle.wire.specs.ReadLaws.{any-none, any-one, any-long}
+use Rattle.wire.specs.Laws.Read.{any-none, any-one, any-long}
 use Rattle.wire.proofs.read.Cursor.any_number.Statement.{statement}
 use Rattle.wire.proofs.read.Cursor.any_number.Tie as tie
 

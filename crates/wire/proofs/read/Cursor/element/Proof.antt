@@ -3,7 +3,7 @@ use borrow.Author.Needs.{needs}
 use native.Mathlib.Omega.{arith}
 use mathlib.Core.Path.{refl, sym}
 use Prim.Native.Nat.{_+_}
-use Rattle.wire.specs.ReadLaws.{element-short}
+use Rattle.wire.specs.Laws.Read.{element-short}
 use Rattle.wire.proofs.read.Cursor.element.Statement.{statement}
 use Rattle.wire.proofs.read.Cursor.element.Tie as tie
 

@@ -2,8 +2,8 @@
 use borrow.Author.Needs.{needs}
 use native.Mathlib.Omega.{arith}
 use mathlib.Core.Path.{sym, _∙_}
-use Rattle.wire.specs.ReadLaws.{element-untyped, element-zero, element-large, element-unsized, element-long, element-is}
-use Rattle.wire.specs.Within.{number-is}
+use Rattle.wire.specs.Laws.Read.{element-untyped, element-zero, element-large, element-unsized, element-long, element-is}
+use Rattle.wire.specs.Laws.Within.{number-is}
 use Rattle.wire.proofs.read.Cursor.long_element.Statement.{statement}
 use Rattle.wire.proofs.read.Cursor.long_element.Tie as tie
 

@@ -1,7 +1,7 @@
 -- One law for each outcome.
 use borrow.Author.Needs.{needs}
 use mathlib.Core.Path.{sym}
-use Rattle.wire.specs.ReadLaws.{two-none, two-some, four-none, four-some, eight-none, eight-some}
+use Rattle.wire.specs.Laws.Read.{two-none, two-some, four-none, four-some, eight-none, eight-some}
 use Rattle.wire.proofs.read.Cursor.long_number.Statement.{statement}
 use Rattle.wire.proofs.read.Cursor.long_number.Tie as tie
 

@@ -2,8 +2,8 @@
 use borrow.Author.Needs.{needs}
 use native.Mathlib.Omega.{arith}
 use mathlib.Core.Path.{sym, _∙_}
-use Rattle.wire.specs.ReadLaws.{number-none, number-short, number-wider}
-use Rattle.wire.specs.Within.{any-number-is}
+use Rattle.wire.specs.Laws.Read.{number-none, number-short, number-wider}
+use Rattle.wire.specs.Laws.Within.{any-number-is}
 use Rattle.wire.proofs.read.Cursor.number.Statement.{statement}
 use Rattle.wire.proofs.read.Cursor.number.Tie as tie
 

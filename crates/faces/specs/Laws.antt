@@ -1,0 +1,5 @@
+pub mod Set
+pub mod View
+pub mod Held
+pub mod Slot
+pub mod Walk

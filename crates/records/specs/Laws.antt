@@ -1,0 +1,7 @@
+pub mod Class
+pub mod Face
+pub mod Each
+pub mod Least
+pub mod Lookup
+pub mod Place
+pub mod Use

@@ -1,0 +1,3 @@
+pub mod View
+pub mod Look
+pub mod Put

@@ -1,0 +1,9 @@
+pub mod Write
+pub mod Bytes
+pub mod Within
+pub mod Walk
+pub mod Extend
+pub mod Exact
+pub mod Round
+pub mod Change
+pub mod Read
