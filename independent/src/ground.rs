@@ -1,7 +1,9 @@
 //! The comparison format "ground": groups of an operation and its fields in, one line each out.
 
+use crate::answer::Answer;
 use crate::fingerprint::{fingerprint, fnv1a, STANDARD_START};
-use crate::name::{canonical_order, count_components, is_prefix, is_same, reach, NameFault, Reach};
+use crate::name::{canonical_order, count_components, is_prefix, is_same, reach, Reach};
+use crate::packet::Refusal;
 use crate::tlv::{big_endian, read_element, read_number, write_number};
 use std::cmp::Ordering;
 
@@ -119,9 +121,8 @@ fn element_line(bytes: &[u8]) -> String {
 /// `3 0 COUNT`, `3 5` or `3 6`.
 fn name_line(name: &[u8]) -> String {
     match count_components(name) {
-        Ok(count) => format!("3 0 {count}"),
-        Err(NameFault::Malformed) => "3 5".to_string(),
-        Err(NameFault::Unsupported) => "3 6".to_string(),
+        Ok(count) => format!("3 {} {count}", Answer::Done.number()),
+        Err(fault) => format!("3 {}", Refusal::from(fault).number()),
     }
 }
 

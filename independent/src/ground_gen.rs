@@ -1,10 +1,10 @@
 //! The generator of the comparison input "ground": outside vectors, edges, then drawn groups.
 
+use crate::build::{element, name, number};
 use crate::ground::{
     write_one, write_two, ELEMENT, FINGERPRINT, FNV, NAME, NUMBER, PAIR, REACH, WRITE_NUMBER,
 };
 use crate::prng::Prng;
-use crate::tlv::{write_element, write_number};
 
 /// Drawn groups are added until the input has this many bytes.
 const ENOUGH: usize = 52_000;
@@ -51,25 +51,6 @@ pub fn generate() -> Vec<u8> {
     out
 }
 
-/// A number in its shortest form.
-fn number(value: u64) -> Vec<u8> {
-    let mut out = Vec::new();
-    write_number(value, &mut out);
-    out
-}
-
-/// An element, whose type may be one that no reader takes.
-fn element(kind: u64, value: &[u8]) -> Vec<u8> {
-    let mut out = Vec::new();
-    write_element(kind, value, &mut out);
-    out
-}
-
-/// A name of ordinary components.
-fn name(parts: &[&str]) -> Vec<u8> {
-    parts.iter().flat_map(|part| element(8, part.as_bytes())).collect()
-}
-
 /// The outside vectors that concern the ground.
 fn vector_groups(out: &mut Vec<u8>) {
     for text in ["", "a", "foobar"] {
@@ -79,8 +60,8 @@ fn vector_groups(out: &mut Vec<u8>) {
     for value in [&[0][..], &[1], &[255], &[1, 0], &[255, 255], &[0, 1, 0, 0]] {
         write_one(ELEMENT, &element(0x0C, value), out);
     }
-    write_two(PAIR, &name(&["AA"]), &name(&["AA", "BB"]), out);
-    write_two(PAIR, &name(&["A"]), &name(&["AA", "BB"]), out);
+    write_two(PAIR, &name("/AA"), &name("/AA/BB"), out);
+    write_two(PAIR, &name("/A"), &name("/AA/BB"), out);
 }
 
 /// Numbers at the edges: whole, followed by more, cut everywhere, not shortest, and written.
@@ -151,7 +132,7 @@ fn name_edges(out: &mut Vec<u8>) {
             write_one(NAME, &element(digest_type, &vec![5; length]), out);
         }
     }
-    let whole = name(&["pump", "", "7"]);
+    let whole = name("/pump//7");
     for end in 0..=whole.len() {
         write_one(NAME, &whole[..end], out);
     }
@@ -165,16 +146,16 @@ fn name_edges(out: &mut Vec<u8>) {
 fn pair_names() -> Vec<Vec<u8>> {
     vec![
         vec![],
-        name(&[""]),
-        name(&["", ""]),
-        name(&["a"]),
-        name(&["a", "b"]),
-        name(&["a", "b", "c"]),
-        name(&["ab"]),
-        name(&["ab", "c"]),
-        name(&["a", "bc"]),
-        name(&["b"]),
-        name(&["aa"]),
+        name("/"),
+        name("//"),
+        name("/a"),
+        name("/a/b"),
+        name("/a/b/c"),
+        name("/ab"),
+        name("/ab/c"),
+        name("/a/bc"),
+        name("/b"),
+        name("/aa"),
         element(7, b"a"),
         element(9, b"a"),
         element(1, b"a"),
@@ -211,20 +192,21 @@ fn reach_edges(out: &mut Vec<u8>) {
         for kind in [1, 3, 7, 8, 9, 32, 264, 65_535] {
             write_one(REACH, &element(kind, word.as_bytes()), out);
         }
-        write_one(REACH, &name(&[word, "a"]), out);
-        write_one(REACH, &name(&["a", word]), out);
-        write_one(REACH, &name(&["", word]), out);
-        write_one(REACH, &name(&[&word[..word.len() - 1]]), out);
-        write_one(REACH, &name(&[&word[..word.len() - 1], &word[word.len() - 1..]]), out);
-        write_one(REACH, &name(&[&format!("{word}s")]), out);
-        write_one(REACH, &name(&[&format!("{word}\0")]), out);
-        write_one(REACH, &name(&[&word.to_uppercase()]), out);
+        write_one(REACH, &name(&format!("/{word}/a")), out);
+        write_one(REACH, &name(&format!("/a/{word}")), out);
+        write_one(REACH, &name(&format!("//{word}")), out);
+        let (cut, last) = word.split_at(word.len() - 1);
+        write_one(REACH, &name(&format!("/{cut}")), out);
+        write_one(REACH, &name(&format!("/{cut}/{last}")), out);
+        write_one(REACH, &name(&format!("/{word}s")), out);
+        write_one(REACH, &name(&format!("/{word}\0")), out);
+        write_one(REACH, &name(&format!("/{}", word.to_uppercase())), out);
     }
     write_one(REACH, &[], out);
-    write_one(REACH, &name(&["", "a"]), out);
-    write_one(REACH, &name(&["local"]), out);
-    write_one(REACH, &name(&["localhopt"]), out);
-    write_one(REACH, &name(&["localhosp"]), out);
+    write_one(REACH, &name("//a"), out);
+    write_one(REACH, &name("/local"), out);
+    write_one(REACH, &name("/localhopt"), out);
+    write_one(REACH, &name("/localhosp"), out);
 }
 
 /// Fingerprints and sums at the edges: nothing, one byte of each kind, long ones.

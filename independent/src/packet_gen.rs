@@ -1,6 +1,11 @@
 //! The generator of "packets" inputs: packets made from the grammar, many of them damaged.
 
+use crate::build::{
+    component, data_tree, element, interest_tree, lp_tree, nack_field, name_of_bytes,
+};
+use crate::name::GENERIC;
 use crate::packet::table as t;
+use crate::packet::Asked;
 use crate::packets::{write_group, INPUT_BYTES};
 use crate::prng::Prng;
 use crate::tlv::write_whole_number;
@@ -103,52 +108,52 @@ fn whole(prng: &mut Prng, from: &[u64]) -> Vec<u8> {
 }
 
 /// A component: mostly an ordinary one of a few letters.
-fn component(prng: &mut Prng) -> Tree {
-    let kind = if prng.one_in(12) { prng.pick(&[3, 7, 9, 32, 253, 65_535]) } else { 8 };
+fn drawn_component(prng: &mut Prng) -> Vec<u8> {
+    let kind = if prng.one_in(12) { prng.pick(&[3, 7, 9, 32, 253, 65_535]) } else { GENERIC };
     let count = prng.below(5);
     let letters: Vec<u8> = (0..count).map(|_| prng.pick(b"abcxyz01")).collect();
-    leaf(kind, &letters)
+    element(kind, &letters)
 }
 
-/// A Name of so many components.
-fn name(prng: &mut Prng, count: usize) -> Tree {
-    let mut components: Vec<Tree> = (0..count).map(|_| component(prng)).collect();
+/// A name of so many components.
+fn name(prng: &mut Prng, count: usize) -> Vec<u8> {
+    let mut components: Vec<Vec<u8>> = (0..count).map(|_| drawn_component(prng)).collect();
     if count > 0 && prng.one_in(25) {
-        components[0] = leaf(8, prng.pick(&["localhost", "localhop"]).as_bytes());
+        components[0] = component(prng.pick(&["localhost", "localhop"]).as_bytes());
     }
-    branch(t::NAME, components)
+    components.concat()
+}
+
+/// The elements directly within a packet that was built.
+fn children_of(packet: &mut Tree) -> &mut Vec<Tree> {
+    packet.nth_branch(0).expect("a packet holds elements")
 }
 
 /// An Interest that keeps the grammar.
 fn interest(prng: &mut Prng) -> Tree {
     let count = prng.between(1, 4);
     let name = name(prng, count);
-    interest_for(prng, name)
+    interest_for(prng, &name)
 }
 
-/// An Interest for a given Name; one in sixteen has elements that are 6.
-fn interest_for(prng: &mut Prng, name: Tree) -> Tree {
-    let mut children = vec![name];
-    if prng.one_in(3) {
-        children.push(leaf(t::CAN_BE_PREFIX, &[]));
-    }
-    if prng.one_in(3) {
-        children.push(leaf(t::MUST_BE_FRESH, &[]));
-    }
-    let nonce = prng.bytes(4);
-    children.push(leaf(t::NONCE, &nonce));
+/// An Interest for a given name; one in sixteen has elements that are 6.
+fn interest_for(prng: &mut Prng, name: &[u8]) -> Tree {
+    let (can_be_prefix, must_be_fresh) = (prng.one_in(3), prng.one_in(3));
+    let nonce = [prng.byte(), prng.byte(), prng.byte(), prng.byte()];
+    let mut rest = Vec::new();
     if prng.one_in(2) {
         let lifetime = whole(prng, &LIFETIMES);
-        children.push(leaf(t::INTEREST_LIFETIME, &lifetime));
+        rest.push(leaf(t::INTEREST_LIFETIME, &lifetime));
     }
     if prng.one_in(2) {
-        children.push(leaf(t::HOP_LIMIT, &[prng.pick(&[0, 1, 2, 64, 255])]));
+        rest.push(leaf(t::HOP_LIMIT, &[prng.pick(&[0, 1, 2, 64, 255])]));
     }
+    let mut tree = interest_tree(&Asked { name, can_be_prefix, must_be_fresh, nonce }, rest);
     if prng.one_in(16) {
-        add_marked(prng, &mut children);
+        add_marked(prng, children_of(&mut tree));
     }
-    add_skipped(prng, &mut children);
-    branch(t::INTEREST, children)
+    add_skipped(prng, children_of(&mut tree));
+    tree
 }
 
 /// Puts one or more elements that are 6 where the order wants them.
@@ -156,8 +161,7 @@ fn add_marked(prng: &mut Prng, children: &mut Vec<Tree>) {
     let count = prng.below(5);
     let value = prng.bytes(count);
     if prng.one_in(3) {
-        let nonce_at = children.iter().position(|child| child.kind == t::NONCE).unwrap_or(0);
-        children.insert(nonce_at, leaf(t::FORWARDING_HINT, &value));
+        add_hint(children, &value);
         return;
     }
     let chosen = prng.between(1, 7);
@@ -166,6 +170,12 @@ fn add_marked(prng: &mut Prng, children: &mut Vec<Tree>) {
             children.push(leaf(kind, &value));
         }
     }
+}
+
+/// Puts a ForwardingHint ahead of the Nonce.
+fn add_hint(children: &mut Vec<Tree>, value: &[u8]) {
+    let nonce_at = children.iter().position(|child| child.kind == t::NONCE).unwrap_or(0);
+    children.insert(nonce_at, leaf(t::FORWARDING_HINT, value));
 }
 
 /// Now and then puts an element that is skipped anywhere.
@@ -182,27 +192,26 @@ fn add_skipped(prng: &mut Prng, children: &mut Vec<Tree>) {
 fn data(prng: &mut Prng) -> Tree {
     let count = prng.below(5);
     let name = name(prng, count);
-    data_for(prng, name)
+    data_for(prng, &name)
 }
 
-/// A Data of a given Name.
-fn data_for(prng: &mut Prng, name: Tree) -> Tree {
-    let mut children = vec![name];
+/// A Data of a given name.
+fn data_for(prng: &mut Prng, name: &[u8]) -> Tree {
+    let mut between = Vec::new();
     if !prng.one_in(3) {
-        children.push(meta_info(prng));
+        between.push(meta_info(prng));
     }
     if !prng.one_in(4) {
         let count = prng.below(8);
         let content = prng.bytes(count);
-        children.push(leaf(t::CONTENT, &content));
+        between.push(leaf(t::CONTENT, &content));
     }
     let info = if prng.one_in(3) { &[][..] } else { &[0x1B, 1, 0] };
-    children.push(leaf(t::SIGNATURE_INFO, info));
     let count = prng.below(6);
     let value = prng.bytes(count);
-    children.push(leaf(t::SIGNATURE_VALUE, &value));
-    add_skipped(prng, &mut children);
-    branch(t::DATA, children)
+    let mut tree = data_tree(name, between, info, &value);
+    add_skipped(prng, children_of(&mut tree));
+    tree
 }
 
 /// A MetaInfo with any of its elements.
@@ -228,29 +237,23 @@ fn meta_info(prng: &mut Prng) -> Tree {
 
 /// A Nack over an Interest.
 fn nack(prng: &mut Prng) -> Tree {
-    let reason = if prng.one_in(6) {
-        Vec::new()
-    } else {
-        let value = whole(prng, &REASONS);
-        vec![leaf(t::NACK_REASON, &value)]
-    };
+    let reason = if prng.one_in(6) { None } else { Some(whole(prng, &REASONS)) };
     let bare = interest(prng);
-    lp_packet(prng, Some(branch(t::NACK, reason)), vec![bare])
+    lp_packet(prng, Some(nack_field(reason.as_deref())), vec![bare])
 }
 
 /// An LpPacket: skipped elements anywhere before the Fragment, now and then one that is 6.
 fn lp_packet(prng: &mut Prng, nack: Option<Tree>, held: Vec<Tree>) -> Tree {
-    let mut children: Vec<Tree> = nack.into_iter().collect();
+    let mut header: Vec<Tree> = nack.into_iter().collect();
     for _ in 0..prng.pick(&[0, 0, 0, 1, 1, 2]) {
         let kind =
             if prng.one_in(12) { prng.pick(&LP_UNSUPPORTED) } else { prng.pick(&LP_SKIPPED) };
         let count = prng.below(4);
         let value = prng.bytes(count);
-        let at = prng.below(children.len() + 1);
-        children.insert(at, leaf(kind, &value));
+        let at = prng.below(header.len() + 1);
+        header.insert(at, leaf(kind, &value));
     }
-    children.push(branch(t::FRAGMENT, held));
-    branch(t::LP_PACKET, children)
+    lp_tree(header, branch(t::FRAGMENT, held))
 }
 
 /// A good packet with one or two of its elements wrong.
@@ -375,26 +378,19 @@ fn name_of_edge_size(prng: &mut Prng) -> Tree {
     let name = match prng.below(8) {
         0 => name_of_bytes(255),
         1 => name_of_bytes(256),
-        2 | 3 => branch(t::NAME, vec![leaf(8, b"c"); 16]),
-        4 | 5 => branch(t::NAME, vec![leaf(8, b""); 17]),
-        6 => branch(t::NAME, vec![leaf(8, b"d"); 17]),
-        _ => branch(t::NAME, vec![leaf(1, b"e"); 17]),
+        2 | 3 => component(b"c").repeat(16),
+        4 | 5 => component(b"").repeat(17),
+        6 => component(b"d").repeat(17),
+        _ => element(1, b"e").repeat(17),
     };
     match prng.below(3) {
-        0 => interest_for(prng, name),
-        1 => data_for(prng, name),
+        0 => interest_for(prng, &name),
+        1 => data_for(prng, &name),
         _ => {
-            let bare = interest_for(prng, name);
-            lp_packet(prng, Some(branch(t::NACK, Vec::new())), vec![bare])
+            let bare = interest_for(prng, &name);
+            lp_packet(prng, Some(nack_field(None)), vec![bare])
         }
     }
-}
-
-/// A Name of few components whose value has so many bytes, 255 or a few more.
-fn name_of_bytes(count: usize) -> Tree {
-    let first = leaf(8, &[0x66; 200]);
-    let second = leaf(8, &vec![0x67; count - 204]);
-    branch(t::NAME, vec![first, second])
 }
 
 /// A packet of exactly 1,500 bytes or a few more, otherwise good or damaged.
@@ -417,20 +413,25 @@ fn packet_of_edge_size(prng: &mut Prng) -> Vec<u8> {
 
 /// Two faults of different answers in one packet: a name too long beside something that is 6 or 5.
 fn stacked_faults(prng: &mut Prng) -> Tree {
-    let long = branch(t::NAME, vec![leaf(8, b""); 17]);
-    let mut children = vec![long, leaf(t::NONCE, &[1, 2, 3, 4])];
+    let long = component(b"").repeat(17);
+    let mut tree = interest_tree(&plain(&long, false), Vec::new());
+    let children = children_of(&mut tree);
     match prng.below(4) {
-        0 => children.insert(1, leaf(t::FORWARDING_HINT, &[0])),
+        0 => add_hint(children, &[0]),
         1 => children.push(leaf(0x25, &[])),
         2 => children.truncate(1),
         _ => children.push(leaf(t::APPLICATION_PARAMETERS, &[])),
     }
     if prng.one_in(2) {
-        return branch(t::INTEREST, children);
+        return tree;
     }
-    let mut header = vec![leaf(prng.pick(&LP_UNSUPPORTED), &[0])];
-    header.push(branch(t::FRAGMENT, vec![branch(t::INTEREST, children)]));
-    branch(t::LP_PACKET, header)
+    let header = vec![leaf(prng.pick(&LP_UNSUPPORTED), &[0])];
+    lp_tree(header, branch(t::FRAGMENT, vec![tree]))
+}
+
+/// What an Interest of nonce 1, 2, 3, 4 asks for, with both flags or none.
+fn plain(name: &[u8], flags: bool) -> Asked<'_> {
+    Asked { name, can_be_prefix: flags, must_be_fresh: flags, nonce: [1, 2, 3, 4] }
 }
 
 /// An element of a type whose value is the one byte 7.
@@ -440,32 +441,18 @@ fn seven(kind: u64) -> Tree {
 
 /// An Interest with every element it may have.
 fn full_interest(prng: &mut Prng) -> Tree {
-    let children = vec![
-        name(prng, 1),
-        leaf(t::CAN_BE_PREFIX, &[]),
-        leaf(t::MUST_BE_FRESH, &[]),
-        leaf(t::FORWARDING_HINT, &[]),
-        leaf(t::NONCE, &[1, 2, 3, 4]),
-        seven(t::INTEREST_LIFETIME),
-        seven(t::HOP_LIMIT),
-        leaf(t::APPLICATION_PARAMETERS, &[]),
-        leaf(t::INTEREST_SIGNATURE_INFO, &[]),
-        leaf(t::INTEREST_SIGNATURE_VALUE, &[]),
-    ];
-    branch(t::INTEREST, children)
+    let mut rest = vec![seven(t::INTEREST_LIFETIME), seven(t::HOP_LIMIT)];
+    rest.extend(MARKED_AT_THE_END.map(|kind| leaf(kind, &[])));
+    let mut tree = interest_tree(&plain(&name(prng, 1), true), rest);
+    add_hint(children_of(&mut tree), &[]);
+    tree
 }
 
 /// A Data with every element it may have.
 fn full_data(prng: &mut Prng) -> Tree {
     let meta = vec![seven(t::CONTENT_TYPE), seven(t::FRESHNESS_PERIOD), seven(t::FINAL_BLOCK_ID)];
-    let children = vec![
-        name(prng, 1),
-        branch(t::META_INFO, meta),
-        seven(t::CONTENT),
-        seven(t::SIGNATURE_INFO),
-        seven(t::SIGNATURE_VALUE),
-    ];
-    branch(t::DATA, children)
+    let between = vec![branch(t::META_INFO, meta), seven(t::CONTENT)];
+    data_tree(&name(prng, 1), between, &[7], &[7])
 }
 
 /// A full Interest, a full Data or a Nack with one element twice, at any depth below the first.
@@ -475,8 +462,7 @@ fn one_repeated(prng: &mut Prng) -> Tree {
         1 => full_data(prng),
         _ => {
             let bare = interest(prng);
-            let reason = branch(t::NACK, vec![seven(t::NACK_REASON)]);
-            lp_packet(prng, Some(reason), vec![bare])
+            lp_packet(prng, Some(nack_field(Some(&[7]))), vec![bare])
         }
     };
     let which = prng.below(tree.branches());
@@ -488,13 +474,12 @@ fn one_repeated(prng: &mut Prng) -> Tree {
 
 /// An LpPacket whose Nack and Fragment do not go together, or whose Fragment holds no bare packet.
 fn odd_lp_packet(prng: &mut Prng) -> Tree {
-    let reason = branch(t::NACK, vec![seven(t::NACK_REASON)]);
-    let digest_name = branch(t::NAME, vec![leaf(1, &[5])]);
+    let reason = nack_field(Some(&[7]));
     let (asked, offered) = (interest(prng), data(prng));
     match prng.below(9) {
         0 => lp_packet(prng, Some(reason), vec![offered]),
         1 => {
-            let marked = data_for(prng, digest_name);
+            let marked = data_for(prng, &element(1, &[5]));
             lp_packet(prng, Some(reason), vec![marked])
         }
         2 => {
@@ -503,16 +488,16 @@ fn odd_lp_packet(prng: &mut Prng) -> Tree {
         }
         3 => {
             let piece = &asked.encode()[..5];
-            let frame = [seven(0x51), leaf(0x52, &[0]), leaf(0x53, &[2]), leaf(t::FRAGMENT, piece)];
-            branch(t::LP_PACKET, frame.to_vec())
+            let header = vec![seven(0x51), leaf(0x52, &[0]), leaf(0x53, &[2])];
+            lp_tree(header, leaf(t::FRAGMENT, piece))
         }
         4 => lp_packet(prng, Some(reason), Vec::new()),
         5 => lp_packet(prng, None, vec![asked, offered]),
         6 => branch(t::LP_PACKET, vec![reason]),
         7 => branch(t::LP_PACKET, vec![branch(t::FRAGMENT, vec![asked]), reason]),
         _ => {
-            let frame = [leaf(0x53, &[1]), reason, branch(t::FRAGMENT, vec![asked])];
-            branch(t::LP_PACKET, frame.to_vec())
+            let header = vec![leaf(0x53, &[1]), reason];
+            lp_tree(header, branch(t::FRAGMENT, vec![asked]))
         }
     }
 }

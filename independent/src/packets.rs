@@ -1,5 +1,7 @@
 //! The comparison format "packets": groups of a length and a packet in, one line each out.
 
+use crate::answer::Answer;
+use crate::hex::hex;
 use crate::packet::{read, Interest, Meaning};
 use crate::tape_number::{read_tape_number, write_tape_number};
 
@@ -61,13 +63,16 @@ fn read_group(input: &[u8], at: usize) -> Option<(&[u8], usize)> {
 fn answer(packet: &[u8]) -> String {
     match read(packet) {
         Err(refusal) => refusal.number().to_string(),
-        Ok(packet) => match packet.meaning {
-            Meaning::Interest(interest) => format!("0 1 {}", interest_fields(&interest)),
-            Meaning::Data(data) => format!("0 2 {} {}", hex(data.name), data.freshness),
-            Meaning::Nack { reason, interest } => {
-                format!("0 3 {reason} {}", asked_fields(&interest))
-            }
-        },
+        Ok(packet) => format!("{} {}", Answer::Done.number(), meaning_fields(&packet.meaning)),
+    }
+}
+
+/// The kind and its fields.
+fn meaning_fields(meaning: &Meaning) -> String {
+    match meaning {
+        Meaning::Interest(interest) => format!("1 {}", interest_fields(interest)),
+        Meaning::Data(data) => format!("2 {} {}", hex(data.name), data.freshness),
+        Meaning::Nack { reason, interest } => format!("3 {reason} {}", asked_fields(interest)),
     }
 }
 
@@ -85,12 +90,4 @@ fn asked_fields(interest: &Interest) -> String {
     let can_be_prefix = u8::from(interest.can_be_prefix);
     let must_be_fresh = u8::from(interest.must_be_fresh);
     format!("{} {can_be_prefix} {must_be_fresh} {}", hex(interest.name), hex(&interest.nonce))
-}
-
-/// Lower-case hex, or `-` for no bytes.
-fn hex(bytes: &[u8]) -> String {
-    if bytes.is_empty() {
-        return "-".to_string();
-    }
-    bytes.iter().map(|byte| format!("{byte:02x}")).collect()
 }

@@ -102,26 +102,52 @@ pub fn events(tape: &[u8]) -> (Vec<Event<'_>>, Option<Unreadable>) {
     (events, None)
 }
 
-/// What `tapeout` prints for a tape.
-pub fn run(tape: &[u8]) -> String {
+/// "A longer tape prints `too long` only."
+pub const TOO_LONG: &str = "too long\n";
+
+/// How a run ended: the node as it stands, and the event that could not be read.
+pub struct End {
+    pub node: Node,
+    unreadable: Option<Unreadable>,
+}
+
+impl End {
+    /// "An unreadable event prints `bad` and the offset of its first byte": that line, or nothing.
+    pub fn bad_line(&self) -> String {
+        self.unreadable.map_or(String::new(), |unreadable| format!("bad {}\n", unreadable.offset))
+    }
+}
+
+/// Runs a tape through an empty node and shows each outcome with the buffer; no run of a tape that
+/// is too long.
+pub fn play(tape: &[u8], mut show: impl FnMut(&Outcome, &[u8])) -> Option<End> {
     if tape.len() > TAPE_BYTES {
-        return "too long\n".to_string();
+        return None;
     }
     let mut node = Node::new();
     let mut buffer = vec![0; LEAST_BUFFER];
-    let mut tally = Tally::default();
-    let mut text = String::new();
     let (events, unreadable) = events(tape);
-    for (place, event) in events.iter().enumerate() {
+    for event in &events {
         let outcome = node.step(event, &mut buffer);
+        show(&outcome, &buffer);
+    }
+    Some(End { node, unreadable })
+}
+
+/// What `tapeout` prints for a tape.
+pub fn run(tape: &[u8]) -> String {
+    let mut text = String::new();
+    let mut position = 0;
+    let mut tally = Tally::default();
+    let end = play(tape, |outcome, _| {
+        position += 1;
         tally.add_all(&outcome.happenings);
-        text.push_str(&outcome_lines(place + 1, &outcome));
+        text.push_str(&outcome_lines(position, outcome));
+    });
+    match end {
+        Some(end) => text + &end.bad_line() + &total_line(&tally, &end.node),
+        None => TOO_LONG.to_string(),
     }
-    if let Some(Unreadable { offset }) = unreadable {
-        text.push_str(&format!("bad {offset}\n"));
-    }
-    text.push_str(&total_line(&tally, &node));
-    text
 }
 
 /// "Per event it prints position from 1, answer, number of sends; per send `>` face, kind, length."

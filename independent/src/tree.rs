@@ -1,4 +1,4 @@
-//! Elements as trees, for the generators: built from the grammar, then damaged.
+//! Elements as trees: put together by the builders, damaged by the packet generator, and encoded.
 
 use crate::tlv::{number_width, write_number};
 

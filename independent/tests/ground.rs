@@ -1,27 +1,18 @@
 //! The ground: outside vectors, edges, and properties over drawn values.
 
+use independent::build::{element, name, number};
 use independent::fingerprint::{fingerprint, fnv1a, STANDARD_START};
 use independent::name::{
     canonical_order, components, count_components, is_prefix, is_same, reach, NameFault, Reach,
 };
 use independent::prng::Prng;
 use independent::tlv::{
-    elements, number_width, read_element, read_number, read_whole_number, write_element,
-    write_number, write_whole_number,
+    elements, number_width, read_element, read_number, read_whole_number, write_whole_number,
 };
 use independent::{ground, ground_gen};
 use std::cmp::Ordering;
 
 const ROUNDS: usize = 3_000;
-
-/// A name of ordinary components.
-fn name(parts: &[&str]) -> Vec<u8> {
-    let mut out = Vec::new();
-    for part in parts {
-        write_element(8, part.as_bytes(), &mut out);
-    }
-    out
-}
 
 /// A drawn well-formed name over a small alphabet, so that equal parts are common.
 fn drawn_name(prng: &mut Prng) -> Vec<u8> {
@@ -29,7 +20,7 @@ fn drawn_name(prng: &mut Prng) -> Vec<u8> {
     for _ in 0..prng.below(5) {
         let kind = prng.pick(&[8, 8, 9, 7, 253, 65_535]);
         let value = vec![prng.pick(b"ab"); prng.below(3)];
-        write_element(kind, &value, &mut out);
+        out.extend(element(kind, &value));
     }
     out
 }
@@ -72,8 +63,8 @@ fn whole_number_vectors() {
 /// Outside vector: /AA/BB is under /AA and not under /A.
 #[test]
 fn prefix_vector() {
-    assert!(is_prefix(&name(&["AA"]), &name(&["AA", "BB"])));
-    assert!(!is_prefix(&name(&["A"]), &name(&["AA", "BB"])));
+    assert!(is_prefix(&name("/AA"), &name("/AA/BB")));
+    assert!(!is_prefix(&name("/A"), &name("/AA/BB")));
 }
 
 /// "Shortest form only": every width at its edges, and longer forms refused.
@@ -90,8 +81,7 @@ fn number_edges() {
         (u64::MAX, 9),
     ];
     for (value, width) in rows {
-        let mut bytes = Vec::new();
-        write_number(value, &mut bytes);
+        let bytes = number(value);
         assert_eq!(bytes.len(), width);
         let number = read_number(&bytes).unwrap();
         assert_eq!((number.value, number.width), (value, width));
@@ -106,9 +96,7 @@ fn number_edges() {
 #[test]
 fn element_types() {
     for (kind, good) in [(0, false), (1, true), (0xFFFF_FFFF, true), (0x1_0000_0000, false)] {
-        let mut bytes = Vec::new();
-        write_element(kind, b"v", &mut bytes);
-        assert_eq!(read_element(&bytes, 0).is_ok(), good, "type {kind}");
+        assert_eq!(read_element(&element(kind, b"v"), 0).is_ok(), good, "type {kind}");
     }
 }
 
@@ -118,8 +106,7 @@ fn drawn_numbers_read_back() {
     let mut prng = Prng::new(11);
     for _ in 0..ROUNDS {
         let value = prng.any_width();
-        let mut bytes = Vec::new();
-        write_number(value, &mut bytes);
+        let mut bytes = number(value);
         for end in 0..bytes.len() {
             assert!(read_number(&bytes[..end]).is_none());
         }
@@ -139,10 +126,8 @@ fn noise_numbers_write_back() {
         if prng.one_in(2) {
             noise[1..5].fill(0);
         }
-        if let Some(number) = read_number(&noise) {
-            let mut bytes = Vec::new();
-            write_number(number.value, &mut bytes);
-            assert_eq!(bytes, noise[..number.width]);
+        if let Some(found) = read_number(&noise) {
+            assert_eq!(number(found.value), noise[..found.width]);
         }
     }
 }
@@ -158,7 +143,7 @@ fn drawn_elements_read_back() {
             let kind = 1 + prng.any_width() % 0xFFFF_FFFF;
             let count = prng.below(300);
             let value = prng.bytes(count);
-            write_element(kind, &value, &mut bytes);
+            bytes.extend(element(kind, &value));
             expected.push((kind, value));
         }
         let read: Vec<_> =
@@ -186,10 +171,7 @@ fn noise_elements_end_within_their_parent() {
 #[test]
 fn component_types() {
     let judge = |kinds: &[u64]| {
-        let mut bytes = Vec::new();
-        for &kind in kinds {
-            write_element(kind, b"", &mut bytes);
-        }
+        let bytes: Vec<u8> = kinds.iter().flat_map(|&kind| element(kind, b"")).collect();
         count_components(&bytes)
     };
     assert_eq!(judge(&[]), Ok(0));
@@ -226,10 +208,8 @@ fn drawn_names_compare() {
 fn canonical_row() {
     let mut row = vec![Vec::new()];
     for (kind, value) in [(7, &b"zz"[..]), (8, b""), (8, b"b"), (8, b"aa"), (8, b"ab"), (9, b"")] {
-        let mut one = Vec::new();
-        write_element(kind, value, &mut one);
-        let mut two = one.clone();
-        write_element(3, b"", &mut two);
+        let one = element(kind, value);
+        let two = [one.clone(), element(3, b"")].concat();
         row.extend([one, two]);
     }
     for (i, a) in row.iter().enumerate() {
@@ -242,14 +222,12 @@ fn canonical_row() {
 /// "`localhost` and `localhop` are whole first components of type 8."
 #[test]
 fn reach_of_names() {
-    assert_eq!(reach(&name(&["localhost", "x"])), Reach::Localhost);
-    assert_eq!(reach(&name(&["localhop"])), Reach::Localhop);
-    for parts in [&["localhos"][..], &["localhosts"], &["x", "localhost"], &["", "localhop"], &[]] {
-        assert_eq!(reach(&name(parts)), Reach::Anywhere);
+    assert_eq!(reach(&name("/localhost/x")), Reach::Localhost);
+    assert_eq!(reach(&name("/localhop")), Reach::Localhop);
+    for text in ["/localhos", "/localhosts", "/x/localhost", "//localhop", ""] {
+        assert_eq!(reach(&name(text)), Reach::Anywhere);
     }
-    let mut other_type = Vec::new();
-    write_element(9, b"localhost", &mut other_type);
-    assert_eq!(reach(&other_type), Reach::Anywhere);
+    assert_eq!(reach(&element(9, b"localhost")), Reach::Anywhere);
 }
 
 /// A fingerprint is the sum over name and nonce in one piece, from any start.
@@ -282,7 +260,7 @@ fn ground_lines() {
     ground::write_one(3, &[8, 0, 8, 0], &mut input);
     ground::write_one(3, &[1, 0], &mut input);
     ground::write_two(4, &[8, 0], &[8, 0, 8, 0], &mut input);
-    ground::write_one(5, &name(&["localhop"]), &mut input);
+    ground::write_one(5, &name("/localhop"), &mut input);
     ground::write_two(6, &[8, 1, 0x61], &[1, 2, 3, 4], &mut input);
     ground::write_one(7, b"", &mut input);
     ground::write_one(8, &256u64.to_be_bytes(), &mut input);

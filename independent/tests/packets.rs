@@ -2,7 +2,8 @@
 
 mod common;
 
-use common::{element, hex, name, I};
+use common::{hex, I};
+use independent::build::{element, name, name_of_bytes};
 use independent::packet::table::{Length, Parent, FRAGMENT, TABLE};
 use independent::packet::{
     data_as_it_leaves, interest_as_it_leaves, read, read_watched, write_nack, Asked, Interest,
@@ -227,9 +228,8 @@ fn sizes() {
     assert_eq!((filled(1_501).len(), answer(&filled(1_501))), (1_501, 4));
     assert_eq!(answer(&vec![0; 1_501]), 4);
     assert_eq!(answer(&lp("", &filled(1_500), "")), 4);
-    let of_bytes = |count: usize| [element(8, &[0x61; 200]), element(8, &vec![0x62; count - 204])];
     for (count, expected) in [(255, 0), (256, 4)] {
-        let name = element(7, &of_bytes(count).concat());
+        let name = element(7, &name_of_bytes(count));
         assert_eq!(answer(&element(5, &[&name[..], &hex(NONCE)].concat())), expected);
         assert_eq!(answer(&element(6, &[&name[..], &hex(SIGNED)].concat())), expected);
     }

@@ -54,7 +54,8 @@ fn generated_packets_agree() {
 /// The packets from outside that are committed beside the product's program.
 #[test]
 fn outside_packets_agree() {
-    let file = |name: &str| fs::read(product("crates/packetout").join(name)).expect("a committed file");
+    let file =
+        |name: &str| fs::read(product("crates/packetout").join(name)).expect("a committed file");
     let theirs = String::from_utf8(file("stdout")).expect("the output is text");
     assert!(same_lines(&theirs, &file("stdin"), "crates/packetout") > 20);
 }
@@ -62,7 +63,12 @@ fn outside_packets_agree() {
 /// The ends of an input: an unreadable group, and more than 65,536 bytes.
 #[test]
 fn ends_agree() {
-    for (input, title) in [(vec![0x80, 0x00], "not shortest"), (vec![5, 1], "cut"), (vec![0; 65_537], "too long"), (vec![], "empty")] {
+    for (input, title) in [
+        (vec![0x80, 0x00], "not shortest"),
+        (vec![5, 1], "cut"),
+        (vec![0; 65_537], "too long"),
+        (vec![], "empty"),
+    ] {
         same_lines(&packetout(&input), &input, title);
     }
 }

@@ -2,28 +2,20 @@
 
 mod common;
 
-use common::{hex, I};
+use common::hex;
+use common::tapes::{all_tapes, sample, SEEDS};
 use independent::node::class::{claimed, Class, CLASSES};
 use independent::node::face::{Faces, Link};
-use independent::node::history::{Tally, What};
+use independent::node::history::{Happening, Tally, What};
 use independent::node::{Answer, Event, Kind, Node, Outcome};
-use independent::packet::{read, Meaning};
+use independent::packet::{read, Interest, Meaning, Packet};
 use independent::sizes::{DEAD_NONCES, FACES, LEAST_BUFFER, PENDING, ROUTES, STORED, TAPE_BYTES};
 use independent::tape::{events, read_event, run, write_event};
 use independent::tape_gen::{generate, MODES};
 use std::collections::{BTreeMap, BTreeSet};
-use std::sync::OnceLock;
 
-/// How many seeds of each mode the checks run over.
-const SEEDS: u64 = 12;
 /// What the unused part of the buffer is filled with.
 const UNTOUCHED: u8 = 0xEE;
-
-/// Document 01's sample tape.
-fn sample() -> Vec<u8> {
-    let head = "03 00 01 01 00  03 00 02 01 00  05 00 01 03 08 01 61  07 00 02 0A 03 08 01 61";
-    hex(&format!("{head}  01 64 01 0D {I}  02 84 20"))
-}
 
 /// Document 01's sample output.
 #[test]
@@ -143,21 +135,12 @@ fn over_all_tapes(mut check: impl FnMut(&Node, &Event, &Outcome, &Node, &[u8])) 
     }
 }
 
-/// Every mode's tapes, generated once for all checks.
-fn all_tapes() -> &'static [Vec<u8>] {
-    static TAPES: OnceLock<Vec<Vec<u8>>> = OnceLock::new();
-    TAPES.get_or_init(|| {
-        let of_mode = |mode| (0..SEEDS).map(move |seed| generate(mode, seed).unwrap());
-        MODES.into_iter().flat_map(of_mode).collect()
-    })
-}
-
 /// What generated tapes reach.
 #[derive(Default)]
 struct Reached {
     answers: BTreeMap<u8, usize>,
     whats: BTreeMap<What, usize>,
-    kinds: BTreeMap<Kind, usize>,
+    kinds: BTreeMap<(Kind, Class), usize>,
     reasons: BTreeSet<u64>,
     full_classes: BTreeSet<Class>,
     most_dead_lines: usize,
@@ -171,7 +154,7 @@ impl Reached {
             *self.whats.entry(happening.what).or_default() += 1;
         }
         for send in &outcome.sends {
-            *self.kinds.entry(send.kind).or_default() += 1;
+            *self.kinds.entry((send.kind, send.class)).or_default() += 1;
             let bytes = &buffer[send.at..send.at + send.length];
             if let Meaning::Nack { reason, .. } = read(bytes).unwrap().meaning {
                 self.reasons.insert(reason);
@@ -183,12 +166,12 @@ impl Reached {
             let full = CLASSES.into_iter().filter(|&c| node.pending().used(c) == most(c));
             self.full_classes.extend(full);
         }
-        self.most_dead_lines = self.most_dead_lines.max(node.dead_lines());
+        self.most_dead_lines = self.most_dead_lines.max(node.dead().lines().len());
     }
 }
 
-/// The modes together reach every answer but 2, every kind of send, every reason and every kind of
-/// end.
+/// The modes together reach every answer but 2, every kind of send in every class, every reason
+/// and every kind of end.
 #[test]
 fn modes_reach_everything() {
     let mut reached = Reached::default();
@@ -202,8 +185,9 @@ fn modes_reach_everything() {
         let times = reached.whats.get(&what).copied().unwrap_or(0);
         assert!(times >= 50, "{what:?}: {times} times");
     }
-    let kinds = [Kind::Interest, Kind::Data, Kind::Nack];
-    assert!(kinds.iter().all(|kind| reached.kinds[kind] >= 100));
+    for kind in [Kind::Interest, Kind::Data, Kind::Nack] {
+        assert!(CLASSES.iter().all(|&class| reached.kinds[&(kind, class)] >= 100));
+    }
     assert_eq!(reached.reasons, BTreeSet::from([0, 50, 100, 150]));
     assert_eq!(reached.full_classes, BTreeSet::from(CLASSES));
     assert_eq!(reached.most_dead_lines, DEAD_NONCES);
@@ -245,6 +229,28 @@ fn no_request_ends_twice() {
         let entries = &node.pending().entries;
         let standing = entries.iter().flat_map(|e| e.ins.keys().map(|&face| (e.opening, face)));
         assert_eq!(open, standing.collect());
+    });
+}
+
+/// What happens to requests is told in order, expiries of ageing first, each part oldest opening
+/// first and then by face; and of each request as it stood.
+#[test]
+fn happenings_are_in_order() {
+    over_all_tapes(|before, event, outcome, node, _| {
+        let key = |h: &Happening| (h.what != What::Expired, h.opening, h.face);
+        assert!(outcome.happenings.windows(2).all(|pair| key(&pair[0]) < key(&pair[1])));
+        for happening in &outcome.happenings {
+            let stood = if happening.what == What::Opened { node } else { before };
+            let mut entries = stood.pending().entries.iter();
+            let entry = entries.find(|entry| entry.opening == happening.opening).unwrap();
+            assert_eq!(happening.class, entry.class);
+            assert_eq!(happening.request, entry.ins[&happening.face]);
+            let over = happening.what == What::Expired;
+            assert!(
+                happening.what == What::Opened
+                    || over == (event.time() >= happening.request.expiry)
+            );
+        }
     });
 }
 
@@ -350,6 +356,77 @@ fn refusals_send_their_nack_only() {
     });
 }
 
+/// "The class of the longest route for their name, or 3 if there is none."
+fn class_by_name(node: &Node, name: &[u8]) -> Class {
+    let matching = node.routes().as_set().iter().filter(|route| name.starts_with(&route.prefix));
+    matching.max_by_key(|route| route.prefix.len()).map_or(Class::Bulk, |route| route.class)
+}
+
+/// The classes of the entries whose requests on a face this event ended in some way.
+fn classes_ended(outcome: &Outcome, face: usize, what: What) -> BTreeSet<Class> {
+    let ended = outcome.happenings.iter().filter(|h| h.what == what && h.face == face);
+    ended.map(|happening| happening.class).collect()
+}
+
+/// The class of the pending entry of an Interest.
+fn class_of_entry(node: &Node, interest: &Interest) -> Option<Class> {
+    let mut entries = node.pending().entries.iter();
+    entries.find(|entry| entry.is_for(interest)).map(|entry| entry.class)
+}
+
+/// Which of the rules a send is under, its class by that rule, and the class that another rule
+/// would give it.
+fn ruled(
+    came: &Packet,
+    sent: &Packet,
+    outcome: &Outcome,
+    node: &Node,
+    face: usize,
+) -> (&'static str, Class, Class) {
+    let by_name = class_by_name(node, sent.name());
+    match (came.meaning, sent.meaning) {
+        (_, Meaning::Interest(interest)) => {
+            ("Interest", class_of_entry(node, &interest).unwrap(), by_name)
+        }
+        (Meaning::Data(_), _) => {
+            let classes = classes_ended(outcome, face, What::Answered);
+            ("Data that ends", *classes.first().unwrap(), *classes.last().unwrap())
+        }
+        (Meaning::Nack { .. }, _) => {
+            let classes = classes_ended(outcome, face, What::Nacked);
+            ("Nack that ends", *classes.first().unwrap(), by_name)
+        }
+        (Meaning::Interest(interest), Meaning::Nack { .. }) => {
+            ("Nack that refuses", by_name, class_of_entry(node, &interest).unwrap_or(by_name))
+        }
+        (Meaning::Interest(interest), Meaning::Data(_)) => {
+            ("Data from the store", by_name, class_by_name(node, interest.name))
+        }
+    }
+}
+
+/// "A send takes the class of the entry it belongs to, the lowest if one Data ends requests of
+/// several on that face; a refusal's Nack, and Data from the store, take the class of the longest
+/// route for their name, or 3 if there is none"; each rule is told from the others.
+#[test]
+fn sends_carry_their_class() {
+    let mut told_apart: BTreeMap<&str, usize> = BTreeMap::new();
+    over_all_tapes(|_, event, outcome, node, buffer| {
+        for send in &outcome.sends {
+            let Event::Packet { bytes, .. } = *event else {
+                panic!("a send without a packet coming in");
+            };
+            let came = read(bytes).unwrap();
+            let sent = read(&buffer[send.at..send.at + send.length]).unwrap();
+            let (rule, expected, other) = ruled(&came, &sent, outcome, node, send.face);
+            assert_eq!(send.class, expected, "{rule}");
+            *told_apart.entry(rule).or_default() += usize::from(expected != other);
+        }
+    });
+    assert_eq!(told_apart.len(), 5);
+    assert!(told_apart.values().all(|&times| times >= 50), "{told_apart:?}");
+}
+
 /// The tables keep their sizes, and no class holds more than 64 less the other reserves: 40, 32 and
 /// 24.
 #[test]
@@ -360,9 +437,9 @@ fn tables_keep_their_sizes() {
         assert!(node.pending().used(Class::Alarm) <= 40);
         assert!(node.pending().used(Class::Monitoring) <= 32);
         assert!(node.pending().used(Class::Bulk) <= 24);
-        assert!(node.routes().len() <= ROUTES);
-        assert!(node.store().len() <= STORED);
-        assert!(node.dead_lines() <= DEAD_NONCES);
+        assert!(node.routes().as_set().len() <= ROUTES);
+        assert!(node.store().by_use().len() <= STORED);
+        assert!(node.dead().lines().len() <= DEAD_NONCES);
         assert!(node.pending().entries.iter().all(|entry| !entry.ins.is_empty()));
     });
 }

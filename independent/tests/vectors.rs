@@ -2,7 +2,8 @@
 
 mod common;
 
-use common::{element, hex, name, I};
+use common::{hex, I};
+use independent::build::{data, element, in_lp, name, name_of_bytes, Request};
 use independent::packet::{read, write_nack, Asked, Meaning, Refusal};
 
 /// The answer number for a text in hex: 0 or the refusal's.
@@ -146,11 +147,26 @@ fn components_16_and_17() {
 /// "At worst it has 290 bytes."
 #[test]
 fn longest_nack() {
-    let mut name = element(8, &[0x61; 200]);
-    name.extend(element(8, &[0x62; 51]));
+    let name = name_of_bytes(255);
     assert_eq!(name.len(), 255);
     let asked =
         Asked { name: &name, can_be_prefix: true, must_be_fresh: true, nonce: [1, 2, 3, 4] };
     assert_eq!(write_nack(150, &asked).len(), 290);
     assert_eq!(write_nack(0, &asked).len(), 285);
+}
+
+/// The builders' plainest packets, byte for byte.
+#[test]
+fn built_packets() {
+    let request = Request::new(&name("/a"), 0x0102_0304);
+    assert_eq!(request.interest(), hex(I));
+    assert_eq!(request.nack(0), hex(&format!("64 13 FD 03 20 00 50 0D {I}")));
+    assert_eq!(in_lp(&hex(I)), hex(&format!("64 14 FD 03 40 01 01 50 0D {I}")));
+    let both = Request { can_be_prefix: true, must_be_fresh: true, ..request };
+    let whole = Request { lifetime: Some(4_000), hop_limit: Some(9), ..both };
+    let rest = "21 00 12 00 0A 04 01 02 03 04 0C 02 0F A0 22 01 09";
+    assert_eq!(whole.interest(), hex(&format!("05 16 07 03 08 01 61 {rest}")));
+    assert_eq!(data(&name("/a"), None, 0), hex("06 09 07 03 08 01 61 16 00 17 00"));
+    let filled = "06 11 07 03 08 01 61 14 03 19 01 05 15 01 55 16 00 17 00";
+    assert_eq!(data(&name("/a"), Some(5), 1), hex(filled));
 }

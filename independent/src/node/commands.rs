@@ -34,8 +34,8 @@ impl Node {
                 let line = fingerprint(self.fingerprint_start, &entry.name, &record.nonce);
                 self.dead.join(line, now);
             }
-            if entry.ins.remove(&face).is_some() {
-                turn.happened(What::Closed, face, &entry);
+            if let Some(request) = entry.ins.remove(&face) {
+                turn.happened(What::Closed, face, &entry, request);
             }
             if entry.ins.is_empty() {
                 self.bury(&entry);

@@ -1,11 +1,12 @@
 //! The Data: scope, matching entries, store, and the copies that end requests.
 
+use super::class::Class;
 use super::face::{FaceNumber, Link};
 use super::history::What;
 use super::turn::{Kind, Turn};
 use super::{Answer, Node};
 use crate::packet::{data_as_it_leaves, Data, Packet};
-use std::collections::BTreeSet;
+use std::collections::BTreeMap;
 
 impl Node {
     /// "Store it, then end every request of the matched entries [...]. The entries leave."
@@ -25,18 +26,17 @@ impl Node {
         }
         let bytes = data_as_it_leaves(packet);
         self.store.put(data.name, bytes, self.last_time, data.freshness);
-        let mut served = BTreeSet::new();
+        let mut served: BTreeMap<FaceNumber, Class> = BTreeMap::new();
         for entry in &matched {
-            for &face in entry.ins.keys() {
+            for (&face, &request) in &entry.ins {
                 let what = self.end_by_data(arrival, face);
-                turn.happened(what, face, entry);
+                turn.happened(what, face, entry, request);
                 if what == What::Answered {
-                    served.insert(face);
+                    add_lowest(&mut served, face, entry.class);
                 }
             }
             self.bury(entry);
         }
-        let served: Vec<FaceNumber> = served.into_iter().collect();
         turn.send_to_all(&served, Kind::Data, bytes);
         Answer::Done
     }
@@ -49,4 +49,10 @@ impl Node {
             What::Answered
         }
     }
+}
+
+/// "The lowest if one Data ends requests of several on that face."
+fn add_lowest(served: &mut BTreeMap<FaceNumber, Class>, face: FaceNumber, class: Class) {
+    let lowest = served.entry(face).or_insert(class);
+    *lowest = class.min(*lowest);
 }

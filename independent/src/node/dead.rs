@@ -8,12 +8,12 @@ const COUNTS_FOR: u64 = 6_000;
 
 /// One line: a fingerprint and the time it joined.
 #[derive(Clone, Copy, Debug, PartialEq, Eq)]
-struct Line {
-    fingerprint: u64,
-    time: u64,
+pub struct Line {
+    pub fingerprint: u64,
+    pub time: u64,
 }
 
-/// The lines, oldest first.
+/// The lines, oldest first; one that no longer counts stays until it is overwritten.
 #[derive(Clone, Debug, PartialEq, Eq, Default)]
 pub struct DeadNonces {
     lines: VecDeque<Line>,
@@ -36,13 +36,8 @@ impl DeadNonces {
         })
     }
 
-    /// How many lines there are.
-    pub fn len(&self) -> usize {
-        self.lines.len()
-    }
-
-    /// Whether there is no line.
-    pub fn is_empty(&self) -> bool {
-        self.lines.is_empty()
+    /// The lines, oldest first, whether they still count or not.
+    pub fn lines(&self) -> &VecDeque<Line> {
+        &self.lines
     }
 }

@@ -5,13 +5,16 @@ use crate::sizes::FACES;
 /// A face's number, from 1.
 pub type FaceNumber = usize;
 
-/// "Link type (point-to-point, multi-access, ad hoc)."
+/// "Link type (point-to-point, multi-access, ad hoc)"; the number is the tape's.
 #[derive(Clone, Copy, Debug, PartialEq, Eq)]
 pub enum Link {
-    PointToPoint,
-    MultiAccess,
-    AdHoc,
+    PointToPoint = 0,
+    MultiAccess = 1,
+    AdHoc = 2,
 }
+
+/// All link types in the order of their numbers.
+const LINKS: [Link; 3] = [Link::PointToPoint, Link::MultiAccess, Link::AdHoc];
 
 /// An open face: "opening gives scope and link type".
 #[derive(Clone, Copy, Debug, PartialEq, Eq)]
@@ -28,13 +31,13 @@ impl Face {
             1 => false,
             _ => return None,
         };
-        let link = match link {
-            0 => Link::PointToPoint,
-            1 => Link::MultiAccess,
-            2 => Link::AdHoc,
-            _ => return None,
-        };
+        let link = LINKS.into_iter().find(|&known| known as u64 == link)?;
         Some(Face { local, link })
+    }
+
+    /// The tape's number of its scope.
+    pub fn scope(self) -> u64 {
+        u64::from(!self.local)
     }
 }
 

@@ -2,26 +2,28 @@
 
 use super::class::Class;
 use super::face::FaceNumber;
+use super::pending::InRecord;
 use crate::sizes::FACES;
 
-/// What happened to one request.
+/// What happened to one request; the number is its place in `tapeout`'s total.
 #[derive(Clone, Copy, Debug, PartialEq, Eq, PartialOrd, Ord)]
 pub enum What {
-    Opened,
-    Answered,
-    Nacked,
-    Expired,
-    Closed,
-    SelfMet,
+    Opened = 1,
+    Answered = 2,
+    Nacked = 3,
+    Expired = 4,
+    Closed = 5,
+    SelfMet = 6,
 }
 
-/// One happening: the request is the one of `face` in the entry made by that opening.
+/// One happening: the request is the one of `face` in the entry made by that opening, as it stood.
 #[derive(Clone, Copy, Debug, PartialEq, Eq)]
 pub struct Happening {
     pub what: What,
     pub face: FaceNumber,
     pub opening: u64,
     pub class: Class,
+    pub request: InRecord,
 }
 
 /// Requests counted by what happened to them.

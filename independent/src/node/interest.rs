@@ -59,10 +59,12 @@ impl Node {
         counts && entry.has_nonce(interest.nonce)
     }
 
-    /// The Nack of a refusal: "Nacks go only to point-to-point faces".
+    /// The Nack of a refusal: "Nacks go only to point-to-point faces"; its class is by the name of
+    /// the Interest.
     fn refuse(&self, face: FaceNumber, reason: u64, interest: &Interest, turn: &mut Turn) {
         if self.faces.has_link(face, Link::PointToPoint) {
-            turn.send(face, Kind::Nack, &write_nack(reason, &Asked::from(interest)));
+            let class = self.routes.class_for(interest.name);
+            turn.send(face, class, Kind::Nack, &write_nack(reason, &Asked::from(interest)));
         }
     }
 
@@ -80,8 +82,9 @@ impl Node {
             can_be_prefix: interest.can_be_prefix,
             must_be_fresh: interest.must_be_fresh,
         };
-        if let Some(data) = self.store.hit(&wanted, self.last_time) {
-            turn.send(face, Kind::Data, data);
+        if let Some(stored) = self.store.hit(&wanted, self.last_time) {
+            let class = self.routes.class_for(&stored.name);
+            turn.send(face, class, Kind::Data, &stored.bytes);
             return Answer::Done;
         }
         let from_local = self.faces.is_local(face);
@@ -138,13 +141,14 @@ impl Node {
         turn: &mut Turn,
     ) {
         let expiry = self.last_time + interest.lifetime;
-        let older = entry.ins.insert(face, InRecord { nonce: interest.nonce, expiry });
+        let request = InRecord { nonce: interest.nonce, expiry };
+        let older = entry.ins.insert(face, request);
         if older.is_none() {
-            turn.happened(What::Opened, face, entry);
+            turn.happened(What::Opened, face, entry, request);
         }
     }
 
-    /// Sends the Interest to a hop and sets the out-record.
+    /// Sends the Interest to a hop in the entry's class and sets the out-record.
     fn send_interest(
         &self,
         entry: &mut Entry,
@@ -153,7 +157,7 @@ impl Node {
         interest: &Interest,
         turn: &mut Turn,
     ) {
-        turn.send(hop, Kind::Interest, &interest_as_it_leaves(packet, interest));
+        turn.send(hop, entry.class, Kind::Interest, &interest_as_it_leaves(packet, interest));
         entry.record_send(hop, interest.nonce, self.last_time);
     }
 

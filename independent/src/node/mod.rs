@@ -1,6 +1,5 @@
 //! The node: its tables, and the step from one event to the next.
 
-pub mod answer;
 pub mod class;
 pub mod dead;
 pub mod face;
@@ -15,15 +14,15 @@ mod data;
 mod interest;
 mod nack;
 
+pub use crate::answer::Answer;
 use crate::fingerprint::{fingerprint, STANDARD_START};
 use crate::name::{reach, Reach};
 use crate::packet::{read, Meaning};
 use crate::sizes::{LATEST_TIME, LEAST_BUFFER};
-pub use answer::Answer;
 use dead::DeadNonces;
 use face::{FaceNumber, Faces};
 use history::{Happening, What};
-use pending::{Entry, Pending};
+use pending::{Entry, InRecord, Pending};
 use route::Routes;
 use store::Store;
 use turn::Turn;
@@ -179,10 +178,10 @@ impl Node {
         let now = self.last_time;
         for entry in &mut self.pending.entries {
             let over = entry.ins.iter().filter(|(_, request)| now >= request.expiry);
-            let over: Vec<FaceNumber> = over.map(|(&face, _)| face).collect();
-            for face in over {
+            let over: Vec<(FaceNumber, InRecord)> = over.map(|(&face, &r)| (face, r)).collect();
+            for (face, request) in over {
                 entry.ins.remove(&face);
-                turn.happened(What::Expired, face, entry);
+                turn.happened(What::Expired, face, entry, request);
             }
         }
         self.dismiss_entries_without_requests();
@@ -229,9 +228,9 @@ impl Node {
         &self.store
     }
 
-    /// How many lines the dead nonce list has, whether they still count or not.
-    pub fn dead_lines(&self) -> usize {
-        self.dead.len()
+    /// The dead nonce list.
+    pub fn dead(&self) -> &DeadNonces {
+        &self.dead
     }
 
     /// The faces.

@@ -66,8 +66,8 @@ impl Node {
                     must_be_fresh: entry.must_be_fresh,
                     nonce: request.nonce,
                 };
-                turn.send(face, Kind::Nack, &write_nack(reason, &asked));
-                turn.happened(What::Nacked, face, entry);
+                turn.send(face, entry.class, Kind::Nack, &write_nack(reason, &asked));
+                turn.happened(What::Nacked, face, entry, request);
             }
         }
     }

@@ -26,7 +26,7 @@ impl Route {
 #[derive(Clone, Copy, Debug, PartialEq, Eq)]
 pub struct Full;
 
-/// All routes; no two have one prefix.
+/// All routes in the order in which they were first set; no two have one prefix.
 #[derive(Clone, Debug, PartialEq, Eq, Default)]
 pub struct Routes {
     routes: Vec<Route>,
@@ -85,18 +85,19 @@ impl Routes {
         matching.max_by_key(|route| components(&route.prefix).count())
     }
 
+    /// The class of a send that belongs to no entry: "the class of the longest route for their
+    /// name, or 3 if there is none".
+    pub fn class_for(&self, name: &[u8]) -> Class {
+        self.longest(name).map_or(Class::Bulk, |route| route.class)
+    }
+
     /// The route of exactly this prefix.
     fn find(&mut self, prefix: &[u8]) -> Option<&mut Route> {
         self.routes.iter_mut().find(|route| is_same(&route.prefix, prefix))
     }
 
-    /// How many routes there are.
-    pub fn len(&self) -> usize {
-        self.routes.len()
-    }
-
-    /// Whether there is no route.
-    pub fn is_empty(&self) -> bool {
-        self.routes.is_empty()
+    /// The routes in the order in which they were first set.
+    pub fn as_set(&self) -> &[Route] {
+        &self.routes
     }
 }

@@ -3,13 +3,13 @@
 use crate::name::{canonical_order, is_prefix, is_same};
 use crate::sizes::STORED;
 
-/// One stored Data: as it leaves, and until when it is fresh.
+/// One stored Data: as it leaves, when it was stored and for how long it is fresh.
 #[derive(Clone, Debug, PartialEq, Eq)]
-struct Stored {
-    name: Vec<u8>,
-    bytes: Vec<u8>,
-    stored_at: u64,
-    freshness: u64,
+pub struct Stored {
+    pub name: Vec<u8>,
+    pub bytes: Vec<u8>,
+    pub stored_at: u64,
+    pub freshness: u64,
 }
 
 /// What a lookup asks for.
@@ -58,22 +58,17 @@ impl Store {
     }
 
     /// "Of those it takes the first in canonical order"; a hit makes it the most recently used.
-    pub fn hit(&mut self, wanted: &Wanted, now: u64) -> Option<&[u8]> {
+    pub fn hit(&mut self, wanted: &Wanted, now: u64) -> Option<&Stored> {
         let serving = (0..self.by_use.len()).filter(|&at| self.by_use[at].may_serve(wanted, now));
         let first =
             serving.min_by(|&a, &b| canonical_order(&self.by_use[a].name, &self.by_use[b].name))?;
         let hit = self.by_use.remove(first);
         self.by_use.push(hit);
-        self.by_use.last().map(|stored| &stored.bytes[..])
+        self.by_use.last()
     }
 
-    /// How many Data are stored.
-    pub fn len(&self) -> usize {
-        self.by_use.len()
-    }
-
-    /// Whether nothing is stored.
-    pub fn is_empty(&self) -> bool {
-        self.by_use.is_empty()
+    /// The stored Data, least recently stored or hit first.
+    pub fn by_use(&self) -> &[Stored] {
+        &self.by_use
     }
 }

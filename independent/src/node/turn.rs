@@ -1,8 +1,10 @@
 //! One event's own record: the sends it packs into the buffer and what it does to requests.
 
+use super::class::Class;
 use super::face::FaceNumber;
 use super::history::{Happening, What};
-use super::pending::Entry;
+use super::pending::{Entry, InRecord};
+use std::collections::BTreeMap;
 
 /// What is sent; the number is the tape's.
 #[derive(Clone, Copy, Debug, PartialEq, Eq, PartialOrd, Ord)]
@@ -12,11 +14,12 @@ pub enum Kind {
     Nack = 3,
 }
 
-/// One send: the packet stands in the buffer from `at`.
+/// One send: the packet stands in the buffer from `at`; its class is request 4's of document 02.
 #[derive(Clone, Copy, Debug, PartialEq, Eq)]
 pub struct Send {
     pub face: FaceNumber,
     pub kind: Kind,
+    pub class: Class,
     pub at: usize,
     pub length: usize,
 }
@@ -36,27 +39,27 @@ impl<'b> Turn<'b> {
     }
 
     /// Packs one packet for one face.
-    pub fn send(&mut self, face: FaceNumber, kind: Kind, packet: &[u8]) {
-        self.send_to_all(&[face], kind, packet);
+    pub fn send(&mut self, face: FaceNumber, class: Class, kind: Kind, packet: &[u8]) {
+        self.send_to_all(&BTreeMap::from([(face, class)]), kind, packet);
     }
 
     /// "Packed from the buffer's start in ascending face order; a Data is written once for all its
-    /// faces."
-    pub fn send_to_all(&mut self, faces: &[FaceNumber], kind: Kind, packet: &[u8]) {
-        if faces.is_empty() {
+    /// faces", each with the class of its copy.
+    pub fn send_to_all(&mut self, to: &BTreeMap<FaceNumber, Class>, kind: Kind, packet: &[u8]) {
+        if to.is_empty() {
             return;
         }
         let (at, length) = (self.used, packet.len());
         self.buffer[at..at + length].copy_from_slice(packet);
         self.used += length;
-        for &face in faces {
-            self.sends.push(Send { face, kind, at, length });
+        for (&face, &class) in to {
+            self.sends.push(Send { face, kind, class, at, length });
         }
     }
 
     /// Notes what happened to the request of `face` in `entry`.
-    pub fn happened(&mut self, what: What, face: FaceNumber, entry: &Entry) {
+    pub fn happened(&mut self, what: What, face: FaceNumber, entry: &Entry, request: InRecord) {
         let (opening, class) = (entry.opening, entry.class);
-        self.happenings.push(Happening { what, face, opening, class });
+        self.happenings.push(Happening { what, face, opening, class, request });
     }
 }

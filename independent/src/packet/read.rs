@@ -5,6 +5,7 @@ use super::table::{
     Support, Unknown, CAN_BE_PREFIX, DATA, FRAGMENT, FRESHNESS_PERIOD, HOP_LIMIT, INTEREST,
     INTEREST_LIFETIME, LP_PACKET, META_INFO, MUST_BE_FRESH, NACK, NACK_REASON, NAME, NONCE, TABLE,
 };
+use crate::answer::Answer;
 use crate::name::{count_components, NameFault};
 use crate::sizes::{
     ABSENT_LIFETIME, LONGEST_FRESHNESS, LONGEST_LIFETIME, NAME_BYTES, NAME_COMPONENTS, PACKET_BYTES,
@@ -22,13 +23,31 @@ pub enum Refusal {
 }
 
 impl Refusal {
-    /// Document 01's answer number.
+    /// The number of its answer.
     pub fn number(self) -> u8 {
-        match self {
-            Refusal::PacketTooLong => 4,
-            Refusal::NameOfTooManyComponents | Refusal::NameOfTooManyBytes => 4,
-            Refusal::Malformed => 5,
-            Refusal::Unsupported => 6,
+        Answer::from(self).number()
+    }
+}
+
+impl From<Refusal> for Answer {
+    /// The answer to what the reader turned away.
+    fn from(refusal: Refusal) -> Answer {
+        match refusal {
+            Refusal::Malformed => Answer::Malformed,
+            Refusal::Unsupported => Answer::Unsupported,
+            Refusal::PacketTooLong
+            | Refusal::NameOfTooManyComponents
+            | Refusal::NameOfTooManyBytes => Answer::TooLong,
+        }
+    }
+}
+
+impl From<NameFault> for Refusal {
+    /// The refusal of bytes that are not a name that is taken.
+    fn from(fault: NameFault) -> Refusal {
+        match fault {
+            NameFault::Malformed => Refusal::Malformed,
+            NameFault::Unsupported => Refusal::Unsupported,
         }
     }
 }
@@ -149,11 +168,8 @@ pub fn check_name_size(name: &[u8]) -> Result<(), Refusal> {
 
 /// A command's prefix: "5, 6, name size (4)".
 pub fn check_prefix(prefix: &[u8]) -> Result<(), Refusal> {
-    match count_components(prefix) {
-        Err(NameFault::Malformed) => Err(Refusal::Malformed),
-        Err(NameFault::Unsupported) => Err(Refusal::Unsupported),
-        Ok(_) => check_name_size(prefix),
-    }
+    count_components(prefix)?;
+    check_name_size(prefix)
 }
 
 impl Reading<'_> {

@@ -1,10 +1,8 @@
 //! What the node writes: the Nack, and the Interest and Data as they leave.
 
 use super::read::{Interest, Packet};
-use super::table::{
-    CAN_BE_PREFIX, FRAGMENT, INTEREST, LP_PACKET, MUST_BE_FRESH, NACK, NACK_REASON, NAME, NONCE,
-};
-use crate::tlv::{write_element, write_whole_number};
+use crate::build::{interest_tree, nack_tree};
+use crate::tlv::write_whole_number;
 
 /// What a Nack's Interest keeps: "Name, the two flags and Nonce only".
 #[derive(Clone, Copy, Debug, PartialEq, Eq)]
@@ -30,32 +28,9 @@ impl<'a> From<&Interest<'a>> for Asked<'a> {
 /// "LpPacket with Nack, NackReason (left out for reason 0), and an Interest of Name, the two flags
 /// and Nonce only."
 pub fn write_nack(reason: u64, asked: &Asked) -> Vec<u8> {
-    let mut nack = Vec::new();
-    if reason != 0 {
-        write_element(NACK_REASON, &write_whole_number(reason), &mut nack);
-    }
-    let mut lp = Vec::new();
-    write_element(NACK, &nack, &mut lp);
-    write_element(FRAGMENT, &write_asked(asked), &mut lp);
-    let mut out = Vec::new();
-    write_element(LP_PACKET, &lp, &mut out);
-    out
-}
-
-/// An Interest of Name, the two flags and Nonce.
-fn write_asked(asked: &Asked) -> Vec<u8> {
-    let mut value = Vec::new();
-    write_element(NAME, asked.name, &mut value);
-    if asked.can_be_prefix {
-        write_element(CAN_BE_PREFIX, &[], &mut value);
-    }
-    if asked.must_be_fresh {
-        write_element(MUST_BE_FRESH, &[], &mut value);
-    }
-    write_element(NONCE, &asked.nonce, &mut value);
-    let mut out = Vec::new();
-    write_element(INTEREST, &value, &mut out);
-    out
+    let number = write_whole_number(reason);
+    let written = (reason != 0).then_some(&number[..]);
+    nack_tree(written, interest_tree(asked, Vec::new())).encode()
 }
 
 /// "The Interest leaves as it came without its Lp header, HopLimit one lower" (never below 0).

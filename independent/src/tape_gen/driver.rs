@@ -1,117 +1,14 @@
 //! Writes a tape event by event, while a node of its own runs along to show what is pending.
 
+use crate::build::{data, in_lp, Request};
 use crate::node::{Event, Kind, Node, Outcome};
-use crate::packet::table as t;
-use crate::packet::{read, write_nack, Asked, Interest, Meaning};
+use crate::packet::{read, Meaning};
 use crate::prng::Prng;
 use crate::sizes::{LEAST_BUFFER, TAPE_BYTES};
 use crate::tape::write_event;
-use crate::tlv::{write_element, write_whole_number};
 
 /// Room kept for a last event that cannot be read.
 const LAST_EVENT: usize = 16;
-
-/// A request as the generator remembers it.
-#[derive(Clone, Debug)]
-pub struct Request {
-    pub name: Vec<u8>,
-    pub can_be_prefix: bool,
-    pub must_be_fresh: bool,
-    pub nonce: [u8; 4],
-    pub lifetime: Option<u64>,
-    pub hop_limit: Option<u8>,
-}
-
-impl Request {
-    /// A request of ordinary kind.
-    pub fn new(name: &[u8], nonce: u64) -> Request {
-        Request {
-            name: name.to_vec(),
-            can_be_prefix: false,
-            must_be_fresh: false,
-            nonce: (nonce as u32).to_be_bytes(),
-            lifetime: None,
-            hop_limit: None,
-        }
-    }
-
-    /// The part of the request that its Nack carries.
-    pub fn asked(&self) -> Asked<'_> {
-        Asked {
-            name: &self.name,
-            can_be_prefix: self.can_be_prefix,
-            must_be_fresh: self.must_be_fresh,
-            nonce: self.nonce,
-        }
-    }
-
-    /// What an Interest that was sent asks for.
-    fn of(interest: &Interest) -> Request {
-        Request {
-            name: interest.name.to_vec(),
-            can_be_prefix: interest.can_be_prefix,
-            must_be_fresh: interest.must_be_fresh,
-            nonce: interest.nonce,
-            lifetime: Some(interest.lifetime),
-            hop_limit: interest.hop_limit.map(|hop_limit| hop_limit.value),
-        }
-    }
-
-    /// The Interest's bytes.
-    pub fn interest(&self) -> Vec<u8> {
-        let mut value = Vec::new();
-        write_element(t::NAME, &self.name, &mut value);
-        if self.can_be_prefix {
-            write_element(t::CAN_BE_PREFIX, &[], &mut value);
-        }
-        if self.must_be_fresh {
-            write_element(t::MUST_BE_FRESH, &[], &mut value);
-        }
-        write_element(t::NONCE, &self.nonce, &mut value);
-        if let Some(lifetime) = self.lifetime {
-            write_element(t::INTEREST_LIFETIME, &write_whole_number(lifetime), &mut value);
-        }
-        if let Some(hop_limit) = self.hop_limit {
-            write_element(t::HOP_LIMIT, &[hop_limit], &mut value);
-        }
-        wrapped(t::INTEREST, &value)
-    }
-}
-
-/// A Data's bytes.
-pub fn data(name: &[u8], freshness: Option<u64>, content: usize) -> Vec<u8> {
-    let mut value = Vec::new();
-    write_element(t::NAME, name, &mut value);
-    if let Some(freshness) = freshness {
-        let period = wrapped(t::FRESHNESS_PERIOD, &write_whole_number(freshness));
-        write_element(t::META_INFO, &period, &mut value);
-    }
-    if content > 0 {
-        write_element(t::CONTENT, &vec![0x55; content], &mut value);
-    }
-    write_element(t::SIGNATURE_INFO, &[], &mut value);
-    write_element(t::SIGNATURE_VALUE, &[], &mut value);
-    wrapped(t::DATA, &value)
-}
-
-/// A name of ordinary components, from text with `/` before each.
-pub fn name(text: &str) -> Vec<u8> {
-    text.split('/').skip(1).flat_map(|part| wrapped(8, part.as_bytes())).collect()
-}
-
-/// A bare packet in an LpPacket with a header that is skipped.
-pub fn in_lp(bare: &[u8]) -> Vec<u8> {
-    let mut value = wrapped(0x0340, &[1]);
-    write_element(t::FRAGMENT, bare, &mut value);
-    wrapped(t::LP_PACKET, &value)
-}
-
-/// An element's bytes.
-pub fn wrapped(kind: u64, value: &[u8]) -> Vec<u8> {
-    let mut out = Vec::new();
-    write_element(kind, value, &mut out);
-    out
-}
 
 /// The tape so far, and what the generator knows of the node.
 pub struct Driver {
@@ -178,7 +75,7 @@ impl Driver {
         for send in outcome.sends.iter().filter(|send| send.kind == Kind::Interest) {
             let bytes = &self.buffer[send.at..send.at + send.length];
             if let Ok(Meaning::Interest(interest)) = read(bytes).map(|packet| packet.meaning) {
-                self.sent.push((send.face as u64, Request::of(&interest)));
+                self.sent.push((send.face as u64, Request::from(&interest)));
             }
         }
         if !outcome.happenings.is_empty() {
@@ -265,6 +162,6 @@ impl Driver {
 
     /// A Nack.
     pub fn nack(&mut self, face: u64, reason: u64, request: &Request) {
-        self.packet(face, &write_nack(reason, &request.asked()));
+        self.packet(face, &request.nack(reason));
     }
 }

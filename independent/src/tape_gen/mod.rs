@@ -8,7 +8,7 @@ use driver::Driver;
 use traffic::{Action, Profile};
 
 /// All modes by name.
-pub const MODES: [&str; 16] = [
+pub const MODES: [&str; 17] = [
     "answers",
     "links",
     "nacks",
@@ -24,6 +24,7 @@ pub const MODES: [&str; 16] = [
     "damage",
     "faces",
     "routes",
+    "classes",
     "mixed",
 ];
 
@@ -97,6 +98,7 @@ fn profile_of(mode: &str) -> Option<Profile> {
         "damage" => Some(damage()),
         "faces" => Some(faces()),
         "routes" => Some(routes()),
+        "classes" => Some(classes()),
         "mixed" => Some(mixed()),
         _ => None,
     }
@@ -291,6 +293,34 @@ fn routes() -> Profile {
             (Action::Hop, 4),
             (Action::DropHop, 2),
             (Action::BadCommand, 1),
+        ],
+        ..BASE
+    }
+}
+
+/// Names within each other, asked for by few faces while their routes change class.
+fn classes() -> Profile {
+    Profile {
+        faces: &[(1, 0), (1, 0), (1, 0), (1, 1), (1, 2)],
+        routes: &[("", 3), ("/a", 1), ("/a/b", 2), ("/a/b/c", 3)],
+        names: &["/a", "/a/b", "/a/b/c", "/d"],
+        spread: 2,
+        fresh_one_in: 1,
+        freshnesses: &[None, None, None, Some(20)],
+        lifetimes: &[None, Some(60_000)],
+        hop_limits: &[None],
+        waits: &[0, 1, 50, 100],
+        actions: &[
+            (Action::Wait, 2),
+            (Action::Ask, 8),
+            (Action::Join, 4),
+            (Action::Circle, 4),
+            (Action::Renew, 1),
+            (Action::Answer, 2),
+            (Action::Nack, 2),
+            (Action::Route, 3),
+            (Action::DropRoute, 1),
+            (Action::Hop, 2),
         ],
         ..BASE
     }

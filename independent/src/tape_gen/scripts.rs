@@ -1,12 +1,13 @@
 //! Written-out tapes for what drawn traffic would hardly reach.
 
-use super::driver::{name, wrapped, Driver, Request};
+use super::driver::Driver;
+use crate::build::{component, name, Request};
 use crate::node::Event;
 use crate::sizes::{DEAD_NONCES, FACES};
 
 /// A request whose name is one short component that `number` makes.
 fn numbered(number: u64) -> Request {
-    let name = wrapped(8, &(number as u16).to_be_bytes());
+    let name = component(&(number as u16).to_be_bytes());
     Request::new(&name, number + 1)
 }
 
@@ -221,13 +222,13 @@ fn overload_step(driver: &mut Driver, number: u64) {
 
 /// The prefix that carries a class.
 fn class_prefix(class: u64) -> Vec<u8> {
-    wrapped(8, &[b'0' + class as u8])
+    component(&[b'0' + class as u8])
 }
 
 /// A request in a class, each under a name of its own.
 fn in_class(class: u64, number: u64) -> Request {
     let mut name = class_prefix(class);
-    name.extend(wrapped(8, &(number as u16).to_be_bytes()));
+    name.extend(component(&(number as u16).to_be_bytes()));
     Request::new(&name, number)
 }
 
@@ -257,16 +258,16 @@ pub fn answers(driver: &mut Driver) {
     driver.nack(3, 150, &Request::new(&a, 1));
     for number in 0..34 {
         let class = driver.prng.between(1, 3) as u64;
-        driver.route(class, &wrapped(8, &[number]));
+        driver.route(class, &component(&[number]));
     }
     driver.route(0, &name("/full"));
     driver.route(2, &a);
     driver.wait(6_000);
     for number in 10..60 {
-        let below_a = [&a[..], &wrapped(8, &[number as u8])].concat();
+        let below_a = [&a[..], &component(&[number as u8])].concat();
         driver.ask(1, &Request::new(&below_a, number));
     }
-    driver.nack(2, 50, &Request::new(&[&a[..], &wrapped(8, &[39])].concat(), 39));
+    driver.nack(2, 50, &Request::new(&[&a[..], &component(&[39])].concat(), 39));
     driver.close(2);
     driver.wait(4_000);
     driver.tick();

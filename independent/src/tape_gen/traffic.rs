@@ -1,6 +1,7 @@
 //! Drawn traffic: a profile says which faces, names and times there are and what is done how often.
 
-use super::driver::{name, wrapped, Driver, Request};
+use super::driver::Driver;
+use crate::build::{component, name, Request};
 use crate::node::Event;
 use crate::packet_gen;
 use crate::sizes::FACES;
@@ -150,7 +151,7 @@ fn act(driver: &mut Driver, profile: &Profile, action: Action) {
 fn ask(driver: &mut Driver, profile: &Profile) {
     let mut name = name(driver.prng.pick(profile.names));
     if driver.prng.one_in(2) {
-        name.extend(wrapped(8, &[driver.prng.below(profile.spread) as u8]));
+        name.extend(component(&[driver.prng.below(profile.spread) as u8]));
     }
     let nonce = if driver.prng.one_in(12) { 7 } else { driver.prng.word() };
     let mut request = Request::new(&name, nonce);
@@ -204,7 +205,7 @@ fn answer(driver: &mut Driver, profile: &Profile) {
     };
     let mut name = request.name;
     if request.can_be_prefix && !driver.prng.one_in(3) {
-        name.extend(wrapped(8, driver.prng.pick(&SUFFIXES).as_bytes()));
+        name.extend(component(driver.prng.pick(&SUFFIXES).as_bytes()));
     }
     if driver.prng.one_in(6) {
         face = any_face(driver, profile);
@@ -217,7 +218,7 @@ fn answer(driver: &mut Driver, profile: &Profile) {
 fn offer(driver: &mut Driver, profile: &Profile) {
     let mut name = name(driver.prng.pick(profile.names));
     if driver.prng.one_in(3) {
-        name.extend(wrapped(8, driver.prng.pick(&SUFFIXES).as_bytes()));
+        name.extend(component(driver.prng.pick(&SUFFIXES).as_bytes()));
     }
     if driver.prng.one_in(20) {
         name.clear();

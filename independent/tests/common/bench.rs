@@ -1,10 +1,10 @@
 //! A node on the bench: events in short form, answers and sends as numbers.
 
+use independent::build::{data, name, Request};
 use independent::node::history::Tally;
 use independent::node::{Event, Node, Outcome};
-use independent::packet::write_nack;
+use independent::packet::{read, Meaning};
 use independent::sizes::LEAST_BUFFER;
-use independent::tape_gen::driver::{data, name, Request};
 
 pub const LOCAL: u64 = 0;
 pub const FAR: u64 = 1;
@@ -113,13 +113,19 @@ impl Bench {
 
     /// A Nack.
     pub fn nack(&mut self, time: u64, face: u64, reason: u64, request: &Request) -> Short {
-        self.packet(time, face, &write_nack(reason, &request.asked()))
+        self.packet(time, face, &request.nack(reason))
     }
 
     /// The bytes of the last event's n-th send.
     pub fn sent(&self, n: usize) -> &[u8] {
         let send = self.last.as_ref().unwrap().sends[n];
         &self.buffer[send.at..send.at + send.length]
+    }
+
+    /// Face, kind and class of the last event's sends.
+    pub fn classes(&self) -> Vec<(usize, u8, u8)> {
+        let sends = &self.last.as_ref().unwrap().sends;
+        sends.iter().map(|send| (send.face, send.kind as u8, send.class as u8)).collect()
     }
 
     /// Opened, answered, Nacked, expired, closed, self-met and open now, of one face.
@@ -173,4 +179,22 @@ pub fn gives(faces: &[usize]) -> Short {
 /// A refusal with its Nack to a face.
 pub fn refuses(answer: u8, face: usize) -> Short {
     (answer, vec![(face, 3)])
+}
+
+/// The reason and nonce of a Nack that was sent.
+pub fn nack_sent(bytes: &[u8]) -> (u64, [u8; 4]) {
+    match read(bytes).unwrap().meaning {
+        Meaning::Nack { reason, interest } => (reason, interest.nonce),
+        _ => panic!("not a Nack"),
+    }
+}
+
+/// The hop limit and nonce of an Interest that was sent.
+pub fn interest_sent(bytes: &[u8]) -> (Option<u8>, [u8; 4]) {
+    match read(bytes).unwrap().meaning {
+        Meaning::Interest(interest) => {
+            (interest.hop_limit.map(|hop_limit| hop_limit.value), interest.nonce)
+        }
+        _ => panic!("not an Interest"),
+    }
 }

@@ -3,6 +3,7 @@
 #![allow(dead_code)]
 
 pub mod bench;
+pub mod tapes;
 
 /// Document 01's I.
 pub const I: &str = "05 0B 07 03 08 01 61 0A 04 01 02 03 04";
@@ -13,20 +14,4 @@ pub fn hex(text: &str) -> Vec<u8> {
         text.chars().filter(|c| !c.is_whitespace()).map(|c| c.to_digit(16).unwrap()).collect();
     assert!(digits.len().is_multiple_of(2), "an odd number of digits: {text}");
     digits.chunks(2).map(|pair| (pair[0] * 16 + pair[1]) as u8).collect()
-}
-
-/// A name of ordinary components, from text with `/` before each.
-pub fn name(text: &str) -> Vec<u8> {
-    let mut out = Vec::new();
-    for part in text.split('/').skip(1) {
-        independent::tlv::write_element(8, part.as_bytes(), &mut out);
-    }
-    out
-}
-
-/// An element.
-pub fn element(kind: u64, value: &[u8]) -> Vec<u8> {
-    let mut out = Vec::new();
-    independent::tlv::write_element(kind, value, &mut out);
-    out
 }

@@ -1,6 +1,4 @@
-//! Document 01's answer numbers.
-
-use crate::packet::Refusal;
+//! Document 01's answer numbers, each in this one place.
 
 /// What an event is answered; the number is document 01's.
 #[derive(Clone, Copy, Debug, PartialEq, Eq, PartialOrd, Ord)]
@@ -28,18 +26,5 @@ impl Answer {
     /// The answer's number.
     pub fn number(self) -> u8 {
         self as u8
-    }
-}
-
-impl From<Refusal> for Answer {
-    /// The answer for what the reader turned away: 4, 5 or 6.
-    fn from(refusal: Refusal) -> Answer {
-        match refusal {
-            Refusal::Malformed => Answer::Malformed,
-            Refusal::Unsupported => Answer::Unsupported,
-            Refusal::PacketTooLong
-            | Refusal::NameOfTooManyComponents
-            | Refusal::NameOfTooManyBytes => Answer::TooLong,
-        }
     }
 }
