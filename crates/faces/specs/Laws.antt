@@ -3,3 +3,4 @@ pub mod View
 pub mod Held
 pub mod Slot
 pub mod Walk
+pub mod Where

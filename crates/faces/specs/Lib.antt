@@ -1,5 +1,5 @@
 pub mod Set
 pub mod Slots
-pub mod Operations
+pub mod Link
 pub mod Places
 pub mod Laws

@@ -7,10 +7,6 @@ use Rattle.laws.specs.Pick.{pick}
 use Rattle.laws.specs.Digits.{member, added, removed}
 use Rattle.records.specs.Face.{isFace}
 
--- "Faces 1 to 16": the one place that the promises take their number of faces from
-abbrev pub mostFaces : ℕ
-mostFaces = 16
-
 -- whether a set has a face
 unfoldable pub hasFace : ℕ → ℕ → ℕ → Bool
 hasFace n s f = isFace n f && member (f - 1) s
@@ -20,16 +16,16 @@ unfoldable pub withFace : ℕ → ℕ → ℕ → ℕ
 withFace n s f = pick (isFace n f) (added (f - 1) s) s
 
 -- the set without a face
-unfoldable pub withoutFace : ℕ → ℕ → ℕ → ℕ
-withoutFace n s f = pick (isFace n f) (removed (f - 1) s) s
+unfoldable pub minusFace : ℕ → ℕ → ℕ → ℕ
+minusFace n s f = pick (isFace n f) (removed (f - 1) s) s
 
 -- how many faces a set has
 unfoldable pub sizeOf : ℕ → ℕ → ℕ
 sizeOf n s = ones (s % 2 ^ n)
 
 -- the lowest face of a set, one past the last face where it has none
-unfoldable pub lowestOf : ℕ → ℕ → ℕ
-lowestOf n s = trailingZeros 64 (s % 2 ^ n + 2 ^ n) + 1
+unfoldable pub lowestFace : ℕ → ℕ → ℕ
+lowestFace n s = trailingZeros 64 (s % 2 ^ n + 2 ^ n) + 1
 
 -- the set of those of n faces that p holds of
 unfoldable pub facesWhere : ℕ → (ℕ → Bool) → ℕ

@@ -6,16 +6,11 @@ use mathlib.Core.Option.{Option, none, some}
 use Rattle.laws.specs.Pick.{pick}
 use Rattle.laws.specs.Digits.{member}
 use Rattle.laws.specs.Places.Tab.{tab}
-use Rattle.records.specs.Slots.{slot, held}
-use Rattle.records.specs.Face.{isFace}
+use Rattle.records.specs.Slots.{held}
 
 -- a slot for each of n faces: what g has for their digits, for those in a set
 unfoldable pub slotsOf : {A : Type 0} → ℕ → ℕ → (ℕ → A) → List (Option A)
 slotsOf n s g = tab (λ i. pick (member i s) (some (g i)) none) 0 n
-
--- the slot of a face; a number that is none has none
-unfoldable pub slotFor : {A : Type 0} → ℕ → ℕ → List (Option A) → Option A
-slotFor n f l = pick (isFace n f) (slot f l) none
 
 -- the faces of a set, by ascending face
 unfoldable pub facesIn : ℕ → ℕ → List ℕ

@@ -1,16 +1,17 @@
 // Sets of faces as bits of an unsigned number, and the open faces with scope and link type, by value.
 //
 // "a set whose size and lowest member are asked for constantly": face f is bit f - 1; ones give the size, trailing zeros the lowest face.
+use sizes::FACES;
 ghost use mathlib.Core.Path.{_≡_};
-ghost use mathlib.Core.Bool.{_&&_, _||_, not};
+ghost use mathlib.Core.Bool.{_&&_, not};
+ghost use mathlib.Core.Option.{none, some};
 ghost use Rattle.laws.specs.Pick.{pick};
+ghost use Rattle.records.specs.Slots.{noSlots, setSlot};
 ghost use Rattle.records.specs.Face.{isOpen, isLocalFace, isPeer, isAdHocFace};
-ghost use Rattle.faces.specs.Set.{mostFaces, hasFace, withFace, withoutFace, sizeOf, lowestOf, facesWhere};
+ghost use Rattle.sizes.specs.Sizes.{mostFaces};
+ghost use Rattle.faces.specs.Set.{hasFace, withFace, minusFace, sizeOf, lowestFace, facesWhere};
 ghost use Rattle.faces.specs.Places.View.{view};
-ghost use Rattle.faces.specs.Operations.{asked, opened, shut, closed};
-
-// "Faces 1 to 16": the one constant of the code.
-pub const FACES: usize = 16;
+ghost use Rattle.faces.specs.Link.{faceWith};
 
 // "link type (point-to-point, multi-access, ad hoc)"
 pub enum Link {
@@ -55,7 +56,7 @@ pub fn add(set: u64, face: usize) -> u64
 
 // The set without a face; a number that is no face changes nothing.
 pub fn remove(set: u64, face: usize) -> u64
-    ensures { λ r. ⌜ r ≡ withoutFace mostFaces set face ⌝ }
+    ensures { λ r. ⌜ r ≡ minusFace mostFaces set face ⌝ }
 {
     if has(set, face) {
         return set - (1 << ((face - 1) as u32));
@@ -65,7 +66,7 @@ pub fn remove(set: u64, face: usize) -> u64
 
 // The set with a face or without it.
 fn put(set: u64, face: usize, there: bool) -> u64
-    ensures { λ r. ⌜ r ≡ pick there (withFace mostFaces set face) (withoutFace mostFaces set face) ⌝ }
+    ensures { λ r. ⌜ r ≡ pick there (withFace mostFaces set face) (minusFace mostFaces set face) ⌝ }
 {
     if there {
         return add(set, face);
@@ -82,7 +83,7 @@ pub fn size(set: u64) -> usize
 
 // The lowest face of a set, one past the last face where it has none.
 pub fn lowest(set: u64) -> usize
-    ensures { λ r. ⌜ r ≡ lowestOf mostFaces set ⌝ }
+    ensures { λ r. ⌜ r ≡ lowestFace mostFaces set ⌝ }
 {
     // The first digit that is no face's.
     let past = 1 << (FACES as u32);
@@ -103,13 +104,6 @@ pub fn common(a: u64, b: u64) -> u64
     members(a & b)
 }
 
-// The faces that are in one of the sets, or in both.
-pub fn either(a: u64, b: u64) -> u64
-    ensures { λ r. ⌜ r ≡ facesWhere mostFaces (λ f. hasFace mostFaces a f || hasFace mostFaces b f) ⌝ }
-{
-    members(a | b)
-}
-
 // The faces of the first set that are not in the second.
 pub fn less(a: u64, b: u64) -> u64
     ensures { λ r. ⌜ r ≡ facesWhere mostFaces (λ f. hasFace mostFaces a f && not (hasFace mostFaces b f)) ⌝ }
@@ -120,7 +114,7 @@ pub fn less(a: u64, b: u64) -> u64
 impl Faces {
     // No face is open.
     pub fn none() -> Faces
-        ensures { λ r. ⌜ view mostFaces r ≡ closed mostFaces ⌝ }
+        ensures { λ r. ⌜ view r ≡ noSlots mostFaces ⌝ }
     {
         Faces {
             open: 0,
@@ -132,14 +126,14 @@ impl Faces {
 
     // Whether a face is open.
     pub fn is_open(self, face: usize) -> bool
-        ensures { λ r. ⌜ r ≡ asked mostFaces face (isOpen (view mostFaces self) face) ⌝ }
+        ensures { λ r. ⌜ r ≡ isOpen (view self) face ⌝ }
     {
         has(self.open, face)
     }
 
     // Whether a face is open and local.
     pub fn is_local(self, face: usize) -> bool
-        ensures { λ r. ⌜ r ≡ asked mostFaces face (isLocalFace (view mostFaces self) face) ⌝ }
+        ensures { λ r. ⌜ r ≡ isLocalFace (view self) face ⌝ }
     {
         if has(self.open, face) {
             return has(self.local, face);
@@ -149,7 +143,7 @@ impl Faces {
 
     // Whether a face is open and point-to-point.
     pub fn is_peer(self, face: usize) -> bool
-        ensures { λ r. ⌜ r ≡ asked mostFaces face (isPeer (view mostFaces self) face) ⌝ }
+        ensures { λ r. ⌜ r ≡ isPeer (view self) face ⌝ }
     {
         if has(self.open, face) {
             return has(self.peer, face);
@@ -159,7 +153,7 @@ impl Faces {
 
     // Whether a face is open and ad hoc: a face that is both is point-to-point.
     pub fn is_ad_hoc(self, face: usize) -> bool
-        ensures { λ r. ⌜ r ≡ asked mostFaces face (isAdHocFace (view mostFaces self) face) ⌝ }
+        ensures { λ r. ⌜ r ≡ isAdHocFace (view self) face ⌝ }
     {
         if has(self.open, face) {
             if has(self.peer, face) {
@@ -170,9 +164,37 @@ impl Faces {
         false
     }
 
+    // The set of the open faces.
+    pub fn all_open(self) -> u64
+        ensures { λ r. ⌜ r ≡ facesWhere mostFaces (isOpen (view self)) ⌝ }
+    {
+        members(self.open)
+    }
+
+    // The set of the faces that are open and local.
+    pub fn all_local(self) -> u64
+        ensures { λ r. ⌜ r ≡ facesWhere mostFaces (isLocalFace (view self)) ⌝ }
+    {
+        common(self.open, self.local)
+    }
+
+    // The set of the faces that are open and point-to-point.
+    pub fn all_peer(self) -> u64
+        ensures { λ r. ⌜ r ≡ facesWhere mostFaces (isPeer (view self)) ⌝ }
+    {
+        common(self.open, self.peer)
+    }
+
+    // The set of the faces that are open and ad hoc.
+    pub fn all_ad_hoc(self) -> u64
+        ensures { λ r. ⌜ r ≡ facesWhere mostFaces (isAdHocFace (view self)) ⌝ }
+    {
+        less(common(self.open, self.adhoc), self.peer)
+    }
+
     // The faces with one opened, or opened anew; a number that is no face changes nothing.
     pub fn with_open(self, face: usize, local: bool, link: Link) -> Faces
-        ensures { λ r. ⌜ view mostFaces r ≡ opened mostFaces face local link (view mostFaces self) ⌝ }
+        ensures { λ r. ⌜ view r ≡ setSlot face (some (faceWith local link)) (view self) ⌝ }
     {
         let open = add(self.open, face);
         let scope = put(self.local, face, local);
@@ -202,7 +224,7 @@ impl Faces {
 
     // The faces with one closed; a number that is no face changes nothing.
     pub fn with_closed(self, face: usize) -> Faces
-        ensures { λ r. ⌜ view mostFaces r ≡ shut mostFaces face (view mostFaces self) ⌝ }
+        ensures { λ r. ⌜ view r ≡ setSlot face none (view self) ⌝ }
     {
         Faces {
             open: remove(self.open, face),

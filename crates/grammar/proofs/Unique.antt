@@ -16,7 +16,7 @@ pub row-of-one : (κs : Lfts 0) (a : Dens κs row-kinds.ps) (x y : resT row-kind
     → row-reads.Post κs a x s → row-reads.Post κs a y t → x ≡ y
 row-of-one κs a x y s t p q = p ∙ sym q
 
--- one more element has one verdict
+-- one more element has one result
 pub judge-one : (κs : Lfts 0) (a : Dens κs judge-kinds.ps) (x y : resT judge-kinds.r κs .Denot) (s t : AtExit (endedOf 0 judge-kinds.ps judge-kinds.r) κs)
     → judge-reads.Post κs a x s → judge-reads.Post κs a y t → x ≡ y
 judge-one κs a x y s t p q = p ∙ sym q

@@ -1,3 +1,5 @@
+pub mod Types
+pub mod Orders
 pub mod Table
 pub mod Walk
 pub mod Places

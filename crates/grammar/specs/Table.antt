@@ -7,10 +7,14 @@ use mathlib.Core.List.{List, [], _∷_}
 use lib.Dec.{leb, eqb}
 use Rattle.laws.specs.Pick.{pick}
 use Rattle.wire.specs.Number.{isWhole}
+use Rattle.wire.specs.declared.verdict.Verdict.{Verdict}
 use Rattle.grammar.specs.declared.Row.{Row}
+use Rattle.grammar.specs.Types as types
+use Rattle.grammar.specs.Orders as order
 
-abbrev pub row : ℕ → ℕ → ℕ → ℕ → ℕ → Row
-row t p o u m = record { typ = t; parent = p; order = o; rule = u; mark = m }
+-- a row of the table: an element's type, the parent that it stands in, its order there, the rule of its length, and what it says
+abbrev pub row : ℕ → ℕ → ℕ → ℕ → Verdict → Row
+row t p o u v = record { typ = t; parent = p; order = o; rule = u; says = v }
 
 -- the rules of length: any; 0; 1; 4; 1, 2, 4 or 8
 abbrev pub any : ℕ
@@ -28,62 +32,49 @@ four = 3
 abbrev pub whole : ℕ
 whole = 4
 
--- the parents: a packet as it came, and the elements that hold others
+-- the parent of a packet as it came; the other parents are elements, by their types
 abbrev pub outer : ℕ
 outer = 0
 
-abbrev pub interest : ℕ
-interest = 0x05
-
-abbrev pub dat : ℕ
-dat = 0x06
-
-abbrev pub meta : ℕ
-meta = 0x14
-
-abbrev pub fragment : ℕ
-fragment = 0x50
-
-abbrev pub lp : ℕ
-lp = 0x64
-
-abbrev pub nack : ℕ
-nack = 0x0320
-
--- type, parent, order, rule of length, and the mark 6 of what is unsupported
+-- type, parent, order, rule of length, and whether a packet that holds it is fine or unsupported
 unfoldable pub table : List Row
 table =
-    row 0x05 outer 1 any 0
-    ∷ row 0x06 outer 2 any 0
-    ∷ row 0x64 outer 3 any 0
-    ∷ row 0x07 interest 1 any 0
-    ∷ row 0x21 interest 2 empty 0
-    ∷ row 0x12 interest 3 empty 0
-    ∷ row 0x1E interest 4 any 6
-    ∷ row 0x0A interest 5 four 0
-    ∷ row 0x0C interest 6 whole 0
-    ∷ row 0x22 interest 7 one 0
-    ∷ row 0x24 interest 8 any 6
-    ∷ row 0x2C interest 9 any 6
-    ∷ row 0x2E interest 10 any 6
-    ∷ row 0x07 dat 1 any 0
-    ∷ row 0x14 dat 2 any 0
-    ∷ row 0x15 dat 3 any 0
-    ∷ row 0x16 dat 4 any 0
-    ∷ row 0x17 dat 5 any 0
-    ∷ row 0x18 meta 1 any 0
-    ∷ row 0x19 meta 2 whole 0
-    ∷ row 0x1A meta 3 any 0
-    ∷ row 0x05 fragment 1 any 0
-    ∷ row 0x06 fragment 2 any 0
-    ∷ row 0x0320 lp 1 any 0
-    ∷ row 0x50 lp 2 any 0
-    ∷ row 0x0321 nack 1 whole 0
+    row types.interest outer order.interest any Verdict.Fine
+    ∷ row types.dat outer order.dat any Verdict.Fine
+    ∷ row types.lpPacket outer order.lpPacket any Verdict.Fine
+    ∷ row 0x07 types.interest order.name any Verdict.Fine
+    ∷ row 0x21 types.interest order.canBePrefix empty Verdict.Fine
+    ∷ row 0x12 types.interest order.mustBeFresh empty Verdict.Fine
+    -- ForwardingHint
+    ∷ row 0x1E types.interest 4 any Verdict.Unsupported
+    ∷ row 0x0A types.interest order.nonce four Verdict.Fine
+    ∷ row 0x0C types.interest order.lifetime whole Verdict.Fine
+    ∷ row 0x22 types.interest order.hopLimit one Verdict.Fine
+    -- ApplicationParameters, InterestSignatureInfo, InterestSignatureValue
+    ∷ row 0x24 types.interest 8 any Verdict.Unsupported
+    ∷ row 0x2C types.interest 9 any Verdict.Unsupported
+    ∷ row 0x2E types.interest 10 any Verdict.Unsupported
+    ∷ row 0x07 types.dat order.name any Verdict.Fine
+    ∷ row types.metaInfo types.dat order.metaInfo any Verdict.Fine
+    -- Content
+    ∷ row 0x15 types.dat 3 any Verdict.Fine
+    ∷ row 0x16 types.dat order.signatureInfo any Verdict.Fine
+    ∷ row 0x17 types.dat order.signatureValue any Verdict.Fine
+    -- ContentType
+    ∷ row 0x18 types.metaInfo 1 any Verdict.Fine
+    ∷ row 0x19 types.metaInfo order.freshness whole Verdict.Fine
+    -- FinalBlockId
+    ∷ row 0x1A types.metaInfo 3 any Verdict.Fine
+    ∷ row types.interest types.fragment order.interest any Verdict.Fine
+    ∷ row types.dat types.fragment order.dat any Verdict.Fine
+    ∷ row types.nack types.lpPacket order.nack any Verdict.Fine
+    ∷ row types.fragment types.lpPacket order.fragment any Verdict.Fine
+    ∷ row 0x0321 types.nack order.nackReason whole Verdict.Fine
     ∷ []
 
 -- the row of a type that is not known
 abbrev pub none : Row
-none = row 0 0 0 0 0
+none = row 0 outer 0 any Verdict.Fine
 
 -- whether a row is that of a type in a parent
 abbrev pub hit : ℕ → ℕ → Row → Bool
@@ -107,10 +98,11 @@ critical t = leb t 31 || eqb (t % 2) 1
 unfoldable pub skippedLp : ℕ → Bool
 skippedLp t = leb 800 t && leb t 959 && eqb (t % 4) 0
 
--- what a type that is not known in its parent says: 0 where it is skipped, else 5 or 6. In a Nack it is 5, "skippable or not". In an
--- LpPacket "anything after the Fragment is 5", which has order 2, and before it "any other type, critical or not, .. is 6". Elsewhere
--- "unknown and critical is 5, unknown and not critical is skipped"
-unfoldable pub other : ℕ → ℕ → ℕ → ℕ
+-- what a type that is not known in its parent says: fine where it is skipped. In a Nack it is 5, "skippable or not". In an LpPacket
+-- "anything after the Fragment is 5", and before it "any other type, critical or not, .. is 6". Elsewhere "unknown and critical is 5,
+-- unknown and not critical is skipped"
+unfoldable pub other : ℕ → ℕ → ℕ → Verdict
 other p t last =
-    pick (eqb p nack) 5
-    (pick (eqb p lp) (pick (eqb last 2) 5 (pick (skippedLp t) 0 6)) (pick (critical t) 5 0))
+    pick (eqb p types.nack) Verdict.Malformed
+    (pick (eqb p types.lpPacket) (pick (eqb last order.fragment) Verdict.Malformed (pick (skippedLp t) Verdict.Fine Verdict.Unsupported))
+    (pick (critical t) Verdict.Malformed Verdict.Fine))

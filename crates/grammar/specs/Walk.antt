@@ -1,37 +1,38 @@
--- The verdict on one element, and the walk over all elements of a parent, over a list of bytes.
+-- What one element says, and the walk over all elements of a parent, over a list of bytes.
 -- Assumes nothing.
 use Prim.Native.Nat.{ℕ}
 use mathlib.Core.List.{List, [], _∷_}
 use lib.ListN.{length, set, replicate}
 use lib.Dec.{leb, eqb}
 use Rattle.laws.specs.Pick.{pick}
+use Rattle.wire.specs.declared.verdict.Verdict.{Verdict}
+use Rattle.wire.specs.Verdict.{isMalformed}
 use Rattle.wire.specs.Element.{Split, elements, ended}
 use Rattle.grammar.specs.declared.Row.{Row}
-use Rattle.grammar.specs.declared.Verdict.{Verdict}
+use Rattle.grammar.specs.declared.Next.{Next}
 use Rattle.grammar.specs.Table.{table, rowOf, fits, other}
 
-abbrev pub verdict : ℕ → ℕ → ℕ → Verdict
-verdict n o k = record { said = n; last = o; order = k }
+-- what is said after an element, the order of the last known one, and the element's own order, 0 where it has no place
+abbrev pub next : Verdict → ℕ → ℕ → Next
+next v o k = record { said = v; last = o; order = k }
 
--- what was said, with an element of a mark more
-unfoldable pub markedBy : ℕ → ℕ → ℕ
-markedBy m said = pick (eqb m 6) 6 said
+-- what was said, with what one more element says
+unfoldable pub saidWith : Verdict → Verdict → Verdict
+saidWith said Verdict.Fine = said
+saidWith said Verdict.Malformed = Verdict.Malformed
+saidWith said Verdict.Unsupported = Verdict.Unsupported
 
 -- an element of a row: "repeated or out of order is 5", and so is a length that does not fit
-unfoldable pub known : ℕ → ℕ → ℕ → Row → Verdict
+unfoldable pub known : Verdict → ℕ → ℕ → Row → Next
 known said last n r =
-    pick (leb (r .order) last) (verdict 5 last 0)
-    (pick (fits (r .rule) n) (verdict (markedBy (r .mark) said) (r .order) (r .order)) (verdict 5 last 0))
+    pick (leb (r .order) last) (next Verdict.Malformed last 0)
+    (pick (fits (r .rule) n) (next (saidWith said (r .says)) (r .order) (r .order)) (next Verdict.Malformed last 0))
 
--- an element of no row, which says n
-unfoldable pub unknown : ℕ → ℕ → ℕ → Verdict
-unknown said last n = pick (eqb n 0) (verdict said last 0) (verdict n last 0)
-
--- the verdict on one more element of a parent p, of type t and a value of n bytes: once 5 is said it stays, and 6 stays unless 5 follows
-unfoldable pub judged : ℕ → ℕ → ℕ → ℕ → ℕ → Verdict
+-- one more element of a parent p, of type t and a value of n bytes: once 5 is said it stays, and 6 stays unless 5 follows
+unfoldable pub judged : ℕ → Verdict → ℕ → ℕ → ℕ → Next
 judged p said last t n =
-    pick (eqb said 5) (verdict 5 last 0)
-    (pick (eqb (rowOf p t table .order) 0) (unknown said last (other p t last)) (known said last n (rowOf p t table)))
+    pick (isMalformed said) (next Verdict.Malformed last 0)
+    (pick (eqb (rowOf p t table .order) 0) (next (saidWith said (other p t last)) last 0) (known said last n (rowOf p t table)))
 
 -- an element of a parent: its type, its value, and how many bytes of the parent follow it
 pub record Item : Type 0 where
@@ -42,27 +43,28 @@ pub record Item : Type 0 where
 abbrev pub item : ℕ → List ℕ → List ℕ → Item
 item t v r = record { typ = t; value = v; left = length r }
 
--- a known element's value, and how many bytes of the parent follow it
+-- a known element's value, and how many bytes of the parent follow it: that tells where it stands, so that a HopLimit can be lowered in
+-- its place and the reader can answer with places
 pub data Field : Type 0 where
   absent : Field
   here : List ℕ → ℕ → Field
 
--- what the elements of a parent said, 0, 5 or 6; the order of the last known one; and their values, by order (0 takes those that are skipped)
+-- what the elements of a parent said; the order of the last known one; and their values, by order (0 takes those that are skipped)
 pub record Fields : Type 0 where
-  pub said : ℕ
+  pub said : Verdict
   pub last : ℕ
   pub vals : List Field
 
 -- no element yet
 unfoldable pub noFields : Fields
-noFields = record { said = 0; last = 0; vals = replicate 11 absent }
+noFields = record { said = Verdict.Fine; last = 0; vals = replicate 11 absent }
 
 -- the parent's bytes are not elements to the last one
 unfoldable pub brokenFields : Fields
-brokenFields = record { said = 5; last = 0; vals = replicate 11 absent }
+brokenFields = record { said = Verdict.Malformed; last = 0; vals = replicate 11 absent }
 
 -- a value in its place
-abbrev pub put : Fields → Item → Verdict → Fields
+abbrev pub put : Fields → Item → Next → Fields
 put f i d = record { said = d .said; last = d .last; vals = set (f .vals) (d .order) (here (i .value) (i .left)) }
 
 -- one more element
@@ -80,5 +82,5 @@ walkedFrom p f e = pick (ended e) (metAll p f (e .items)) brokenFields
 
 -- what the elements of a parent say, whose value is l
 unfoldable pub walked : ℕ → List ℕ → Fields
-unfolding pick table rowOf fits other markedBy known unknown judged met metAll walkedFrom noFields brokenFields ended elements
+unfolding pick table rowOf fits other saidWith known judged met metAll walkedFrom noFields brokenFields ended elements
 walked p l = walkedFrom p noFields (elements item l)

@@ -1,40 +1,32 @@
 // The fixed table of known elements, and one walk over the elements of a parent that it drives.
 //
 // "Which types are known, in which parent, with which length, is one fixed table."
+pub mod order;
+pub mod types;
+
 use wire::Cursor;
 use wire::Element;
 use wire::Read;
+use wire::Verdict;
 ghost use mathlib.Core.Path.{_≡_};
 ghost use lib.ListN.{length};
 ghost use Rattle.grammar.specs.Table.{table, rowOf, fits, other};
 ghost use Rattle.grammar.specs.Places.Table.{start};
-ghost use Rattle.grammar.specs.Walk.{markedBy, judged, walked};
+ghost use Rattle.grammar.specs.Walk.{saidWith, judged, walked};
 ghost use Rattle.grammar.specs.Places.Walk.{foundIn};
 
-// A known element: its type, the parent that it stands in, its place in the order there, the rule of its length, and its mark: 6
-// where a packet that holds it is unsupported, else 0.
+// A known element: its type, the parent that it stands in, its place in the order there, the rule of its length, and what it says:
+// that a packet which holds it is fine, or unsupported.
 pub struct Row {
     pub typ: u16,
     pub parent: u16,
     pub order: u16,
     pub rule: u16,
-    pub mark: u16,
+    pub says: Verdict,
 }
 
-// The parents: a packet as it came, and the elements that hold others.
+// The parent of a packet as it came. The other parents are elements, by their types.
 pub const OUTER: u16 = 0;
-
-pub const INTEREST: u16 = 0x05;
-
-pub const DATA: u16 = 0x06;
-
-pub const META: u16 = 0x14;
-
-pub const FRAGMENT: u16 = 0x50;
-
-pub const LP: u16 = 0x64;
-
-pub const NACK: u16 = 0x0320;
 
 // The rules of length: any; 0; 1; 4; 1, 2, 4 or 8.
 const ANY: u16 = 0;
@@ -51,186 +43,186 @@ const ROWS: usize = 26;
 
 const TABLE: [Row; 26] = [
     Row {
-        typ: 0x05,
+        typ: types::INTEREST,
         parent: OUTER,
-        order: 1,
+        order: order::INTEREST as u16,
         rule: ANY,
-        mark: 0,
+        says: Verdict::Fine,
     },
     Row {
-        typ: 0x06,
+        typ: types::DATA,
         parent: OUTER,
-        order: 2,
+        order: order::DATA as u16,
         rule: ANY,
-        mark: 0,
+        says: Verdict::Fine,
     },
     Row {
-        typ: 0x64,
+        typ: types::LP_PACKET,
         parent: OUTER,
-        order: 3,
+        order: order::LP_PACKET as u16,
         rule: ANY,
-        mark: 0,
+        says: Verdict::Fine,
     },
     Row {
-        typ: 0x07,
-        parent: INTEREST,
-        order: 1,
+        typ: types::NAME,
+        parent: types::INTEREST,
+        order: order::NAME as u16,
         rule: ANY,
-        mark: 0,
+        says: Verdict::Fine,
     },
     Row {
-        typ: 0x21,
-        parent: INTEREST,
-        order: 2,
+        typ: types::CAN_BE_PREFIX,
+        parent: types::INTEREST,
+        order: order::CAN_BE_PREFIX as u16,
         rule: EMPTY,
-        mark: 0,
+        says: Verdict::Fine,
     },
     Row {
-        typ: 0x12,
-        parent: INTEREST,
-        order: 3,
+        typ: types::MUST_BE_FRESH,
+        parent: types::INTEREST,
+        order: order::MUST_BE_FRESH as u16,
         rule: EMPTY,
-        mark: 0,
+        says: Verdict::Fine,
     },
     Row {
-        typ: 0x1E,
-        parent: INTEREST,
-        order: 4,
+        typ: types::FORWARDING_HINT,
+        parent: types::INTEREST,
+        order: order::FORWARDING_HINT as u16,
         rule: ANY,
-        mark: 6,
+        says: Verdict::Unsupported,
     },
     Row {
-        typ: 0x0A,
-        parent: INTEREST,
-        order: 5,
+        typ: types::NONCE,
+        parent: types::INTEREST,
+        order: order::NONCE as u16,
         rule: FOUR,
-        mark: 0,
+        says: Verdict::Fine,
     },
     Row {
-        typ: 0x0C,
-        parent: INTEREST,
-        order: 6,
+        typ: types::LIFETIME,
+        parent: types::INTEREST,
+        order: order::LIFETIME as u16,
         rule: WHOLE,
-        mark: 0,
+        says: Verdict::Fine,
     },
     Row {
-        typ: 0x22,
-        parent: INTEREST,
-        order: 7,
+        typ: types::HOP_LIMIT,
+        parent: types::INTEREST,
+        order: order::HOP_LIMIT as u16,
         rule: ONE,
-        mark: 0,
+        says: Verdict::Fine,
     },
     Row {
-        typ: 0x24,
-        parent: INTEREST,
-        order: 8,
+        typ: types::PARAMETERS,
+        parent: types::INTEREST,
+        order: order::PARAMETERS as u16,
         rule: ANY,
-        mark: 6,
+        says: Verdict::Unsupported,
     },
     Row {
-        typ: 0x2C,
-        parent: INTEREST,
-        order: 9,
+        typ: types::INTEREST_SIGNATURE_INFO,
+        parent: types::INTEREST,
+        order: order::INTEREST_SIGNATURE_INFO as u16,
         rule: ANY,
-        mark: 6,
+        says: Verdict::Unsupported,
     },
     Row {
-        typ: 0x2E,
-        parent: INTEREST,
-        order: 10,
+        typ: types::INTEREST_SIGNATURE_VALUE,
+        parent: types::INTEREST,
+        order: order::INTEREST_SIGNATURE_VALUE as u16,
         rule: ANY,
-        mark: 6,
+        says: Verdict::Unsupported,
     },
     Row {
-        typ: 0x07,
-        parent: DATA,
-        order: 1,
+        typ: types::NAME,
+        parent: types::DATA,
+        order: order::NAME as u16,
         rule: ANY,
-        mark: 0,
+        says: Verdict::Fine,
     },
     Row {
-        typ: 0x14,
-        parent: DATA,
-        order: 2,
+        typ: types::META_INFO,
+        parent: types::DATA,
+        order: order::META_INFO as u16,
         rule: ANY,
-        mark: 0,
+        says: Verdict::Fine,
     },
     Row {
-        typ: 0x15,
-        parent: DATA,
-        order: 3,
+        typ: types::CONTENT,
+        parent: types::DATA,
+        order: order::CONTENT as u16,
         rule: ANY,
-        mark: 0,
+        says: Verdict::Fine,
     },
     Row {
-        typ: 0x16,
-        parent: DATA,
-        order: 4,
+        typ: types::SIGNATURE_INFO,
+        parent: types::DATA,
+        order: order::SIGNATURE_INFO as u16,
         rule: ANY,
-        mark: 0,
+        says: Verdict::Fine,
     },
     Row {
-        typ: 0x17,
-        parent: DATA,
-        order: 5,
+        typ: types::SIGNATURE_VALUE,
+        parent: types::DATA,
+        order: order::SIGNATURE_VALUE as u16,
         rule: ANY,
-        mark: 0,
+        says: Verdict::Fine,
     },
     Row {
-        typ: 0x18,
-        parent: META,
-        order: 1,
+        typ: types::CONTENT_TYPE,
+        parent: types::META_INFO,
+        order: order::CONTENT_TYPE as u16,
         rule: ANY,
-        mark: 0,
+        says: Verdict::Fine,
     },
     Row {
-        typ: 0x19,
-        parent: META,
-        order: 2,
+        typ: types::FRESHNESS,
+        parent: types::META_INFO,
+        order: order::FRESHNESS as u16,
         rule: WHOLE,
-        mark: 0,
+        says: Verdict::Fine,
     },
     Row {
-        typ: 0x1A,
-        parent: META,
-        order: 3,
+        typ: types::FINAL_BLOCK_ID,
+        parent: types::META_INFO,
+        order: order::FINAL_BLOCK_ID as u16,
         rule: ANY,
-        mark: 0,
+        says: Verdict::Fine,
     },
     Row {
-        typ: 0x05,
-        parent: FRAGMENT,
-        order: 1,
+        typ: types::INTEREST,
+        parent: types::FRAGMENT,
+        order: order::INTEREST as u16,
         rule: ANY,
-        mark: 0,
+        says: Verdict::Fine,
     },
     Row {
-        typ: 0x06,
-        parent: FRAGMENT,
-        order: 2,
+        typ: types::DATA,
+        parent: types::FRAGMENT,
+        order: order::DATA as u16,
         rule: ANY,
-        mark: 0,
+        says: Verdict::Fine,
     },
     Row {
-        typ: 0x0320,
-        parent: LP,
-        order: 1,
+        typ: types::NACK,
+        parent: types::LP_PACKET,
+        order: order::NACK as u16,
         rule: ANY,
-        mark: 0,
+        says: Verdict::Fine,
     },
     Row {
-        typ: 0x50,
-        parent: LP,
-        order: 2,
+        typ: types::FRAGMENT,
+        parent: types::LP_PACKET,
+        order: order::FRAGMENT as u16,
         rule: ANY,
-        mark: 0,
+        says: Verdict::Fine,
     },
     Row {
-        typ: 0x0321,
-        parent: NACK,
-        order: 1,
+        typ: types::NACK_REASON,
+        parent: types::NACK,
+        order: order::NACK_REASON as u16,
         rule: WHOLE,
-        mark: 0,
+        says: Verdict::Fine,
     },
 ];
 
@@ -240,17 +232,17 @@ pub struct Place {
     pub len: usize,
 }
 
-// What the elements of a parent said, 0, 5 or 6; the order of the last known one; and the place of each, by its order. The place of
+// What the elements of a parent said; the order of the last known one; and the place of each, by its order. The place of
 // order 0 is that of an element that was skipped, and is not read.
 pub struct Found {
-    pub said: u64,
+    pub said: Verdict,
     pub last: usize,
     pub places: [Place; 11],
 }
 
 // What one more element makes of what was said and of the last order, and the order of its place, 0 where it has none.
-pub struct Verdict {
-    pub said: u64,
+pub struct Next {
+    pub said: Verdict,
     pub last: usize,
     pub order: usize,
 }
@@ -259,22 +251,22 @@ pub struct Verdict {
 fn first_row(parent: u16) -> usize
     ensures { λ r. ⌜ r ≡ start parent ⌝ }
 {
-    if parent == INTEREST {
+    if parent == types::INTEREST {
         return 3;
     }
-    if parent == DATA {
+    if parent == types::DATA {
         return 13;
     }
-    if parent == META {
+    if parent == types::META_INFO {
         return 18;
     }
-    if parent == FRAGMENT {
+    if parent == types::FRAGMENT {
         return 21;
     }
-    if parent == LP {
+    if parent == types::LP_PACKET {
         return 23;
     }
-    if parent == NACK {
+    if parent == types::NACK {
         return 25;
     }
     0
@@ -315,7 +307,7 @@ pub fn row_of(parent: u16, typ: u64) -> Row
         parent: 0,
         order: 0,
         rule: 0,
-        mark: 0,
+        says: Verdict::Fine,
     }
 }
 
@@ -347,51 +339,55 @@ fn length_fits(rule: u16, len: usize) -> bool
     true
 }
 
-// What an element of a type that is not known in its parent says: 0, it is skipped; or 5 or 6.
-fn other_says(parent: u16, typ: u64, last: usize) -> u64
+// What an element of a type that is not known in its parent says: fine, it is skipped; or malformed or unsupported.
+fn other_says(parent: u16, typ: u64, last: usize) -> Verdict
     ensures { λ r. ⌜ r ≡ other parent typ last ⌝ }
 {
-    if parent == NACK {
-        return 5;
+    if parent == types::NACK {
+        return Verdict::Malformed;
     }
-    if parent == LP {
-        if last == 2 {
-            return 5;
+    if parent == types::LP_PACKET {
+        if last == order::FRAGMENT {
+            return Verdict::Malformed;
         }
         if typ < 800 {
-            return 6;
+            return Verdict::Unsupported;
         }
         if 959 < typ {
-            return 6;
+            return Verdict::Unsupported;
         }
         if typ % 4 == 0 {
-            return 0;
+            return Verdict::Fine;
         }
-        return 6;
+        return Verdict::Unsupported;
     }
     if typ <= 31 {
-        return 5;
+        return Verdict::Malformed;
     }
     if typ % 2 == 1 {
-        return 5;
+        return Verdict::Malformed;
     }
-    0
+    Verdict::Fine
 }
 
-// What was said, with an element of a mark more.
-fn with_mark(mark: u16, said: u64) -> u64
-    ensures { λ r. ⌜ r ≡ markedBy mark said ⌝ }
+// What was said, with what one more element says.
+fn said_with(said: Verdict, more: Verdict) -> Verdict
+    ensures { λ r. ⌜ r ≡ saidWith said more ⌝ }
 {
-    if mark == 6 { 6 } else { said }
+    match more {
+        Verdict::Fine => said,
+        Verdict::Malformed => Verdict::Malformed,
+        Verdict::Unsupported => Verdict::Unsupported,
+    }
 }
 
-// The verdict on one more element of a parent, of a type and a value's length.
-pub fn judge(parent: u16, said: u64, last: usize, typ: u64, len: usize) -> Verdict
+// What is said with one more element of a parent, of a type and a value's length.
+pub fn judge(parent: u16, said: Verdict, last: usize, typ: u64, len: usize) -> Next
     ensures { λ r. ⌜ r ≡ judged parent said last typ len ⌝ }
 {
-    if said == 5 {
-        return Verdict {
-            said: 5,
+    if said.is_malformed() {
+        return Next {
+            said: Verdict::Malformed,
             last: last,
             order: 0,
         };
@@ -399,37 +395,31 @@ pub fn judge(parent: u16, said: u64, last: usize, typ: u64, len: usize) -> Verdi
     let r = row_of(parent, typ);
     let o = size16(r.order);
     if o == 0 {
-        let n = other_says(parent, typ, last);
-        if n == 0 {
-            return Verdict {
-                said: said,
-                last: last,
-                order: 0,
-            };
-        }
-        return Verdict {
+        let n = said_with(said, other_says(parent, typ, last));
+        return Next {
             said: n,
             last: last,
             order: 0,
         };
     }
     if o <= last {
-        return Verdict {
-            said: 5,
+        return Next {
+            said: Verdict::Malformed,
             last: last,
             order: 0,
         };
     }
     if length_fits(r.rule, len) {
-        let n = with_mark(r.mark, said);
-        return Verdict {
+        let mark = r.says;
+        let n = said_with(said, mark);
+        return Next {
             said: n,
             last: o,
             order: o,
         };
     }
-    Verdict {
-        said: 5,
+    Next {
+        said: Verdict::Malformed,
         last: last,
         order: 0,
     }
@@ -440,14 +430,14 @@ pub fn walk(s: &[u8], parent: u16) -> Found
     ensures { λ r. ⌜ r ≡ foundIn (length (now (s .entry))) (walked parent (now (s .entry))) ⌝ }
 {
     let mut at: usize = 0;
-    let mut said: u64 = 0;
+    let mut said = Verdict::Fine;
     let mut last: usize = 0;
     let mut places = [Place { at: 0, len: 0 }; 11];
     while at < s.len() {
         match (Cursor { at: at }).element(s) {
             Read::Bad => {
                 return Found {
-                    said: 5,
+                    said: Verdict::Malformed,
                     last: 0,
                     places: [Place { at: 0, len: 0 }; 11],
                 };

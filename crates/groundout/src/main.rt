@@ -2,12 +2,12 @@
 //
 // The input is groups: a byte that says what to do, and one or two fields, each a length of two bytes, the higher first, and that
 // many bytes. An unreadable group ends the run.
-use names::Counted;
 use names::Order;
 use wire::Cursor;
 use wire::Number;
 use wire::Put;
 use wire::Read;
+use wire::Verdict;
 ghost use Prim.Native.Nat.{_≤_, _<_};
 ghost use lib.ListN.{length};
 ghost use Rattle.groundout.specs.Places.Group.{FieldIn, Ahead};
@@ -91,12 +91,14 @@ fn element(s: &[u8]) {
 
 // 3: what a name's bytes say.
 fn components(s: &[u8]) {
-    match names::count_components(s) {
-        Counted::Malformed => word(5),
-        Counted::Unsupported => word(6),
-        Counted::Count(n) => {
+    let c = names::count_components(s);
+    let said = c.said;
+    match said {
+        Verdict::Malformed => word(5),
+        Verdict::Unsupported => word(6),
+        Verdict::Fine => {
             word(0);
-            word(n as u64);
+            word(c.count as u64);
         }
     }
 }

@@ -5,18 +5,21 @@ use contract.Lifetimes.{Lfts}
 use denote.Ref.{now}
 use denote.Triple.Clauses.{AtExit}
 use borrow.Fn.Kinds.{Dens, endedOf, resT}
-use Rattle.happenings.specs.Noted.{Notes}
+use Rattle.happenings.specs.Noted.{mostRows}
+use Rattle.happenings.specs.Laws.Noted.{notes-one}
+use Rattle.happenings.proofs.number.Kinds as number-kinds
+use Rattle.happenings.proofs.number.Reads as number-reads
 use Rattle.happenings.proofs.note.Kinds as note-kinds
 use Rattle.happenings.proofs.note.Reads as note-reads
-use Rattle.happenings.proofs.note_all.Kinds as note-all-kinds
-use Rattle.happenings.proofs.note_all.Reads as note-all-reads
+
+-- the number of a fate
+pub number-one : (κs : Lfts 0) (a : Dens κs number-kinds.ps) (x y : resT number-kinds.r κs .Denot)
+    (s t : AtExit (endedOf 0 number-kinds.ps number-kinds.r) κs)
+    → number-reads.Post κs a x s → number-reads.Post κs a y t → x ≡ y
+number-one κs a x y s t p q = p ∙ sym q
 
 -- a happening noted
-pub note-one : (κs : Lfts 1) (a : Dens κs note-kinds.ps) (x y : resT note-kinds.r κs .Denot) (s t : AtExit (endedOf 1 note-kinds.ps note-kinds.r) κs)
+pub note-one : (κs : Lfts 1) (a : Dens κs note-kinds.ps) (x y : resT note-kinds.r κs .Denot)
+    (s t : AtExit (endedOf 1 note-kinds.ps note-kinds.r) κs)
     → note-reads.Post κs a x s → note-reads.Post κs a y t → (x ≡ y) × (now (s .0) ≡ now (t .0))
-note-one κs a x y s t p q = (p .made ∙ sym (q .made), p .rows ∙ sym (q .rows))
-
--- a happening noted for each face of a set
-pub note-all-one : (κs : Lfts 1) (a : Dens κs note-all-kinds.ps) (x y : resT note-all-kinds.r κs .Denot) (s t : AtExit (endedOf 1 note-all-kinds.ps note-all-kinds.r) κs)
-    → note-all-reads.Post κs a x s → note-all-reads.Post κs a y t → (x ≡ y) × (now (s .0) ≡ now (t .0))
-note-all-one κs a x y s t p q = (p .made ∙ sym (q .made), p .rows ∙ sym (q .rows))
+note-one κs a x y s t p q = notes-one mostRows p q

@@ -1,2 +1,2 @@
 pub mod Noted
-pub mod NotedLaws
+pub mod Laws

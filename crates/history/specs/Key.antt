@@ -1,4 +1,5 @@
--- The words of the theorems on histories: what a request is known by, and how happenings and standing requests are counted.
+-- "For every face, the requests opened equal those answered ..": what a request is known by, and how happenings and standing requests are
+-- counted.
 -- Assumes nothing.
 use Prim.Native.Nat.{ℕ, _+_}
 use mathlib.Core.Bool.{Bool, _&&_, not, Bool·beq}
@@ -8,8 +9,10 @@ use Rattle.names.specs.Name.{sameBytes}
 use Rattle.records.specs.Class.{Class}
 use Rattle.records.specs.Slots.{held, anyOf}
 use Rattle.records.specs.Entry.{Entry}
-use Rattle.history.specs.Count.{howMany}
-use Rattle.records.specs.Happening.{Fate, opened, Happening, fateNumber}
+use Rattle.history.specs.Lists.{howMany}
+use Rattle.records.specs.Happening.{Fate, opened, Happening, answered, nacked, expired, closed, selfMet}
+use Rattle.records.specs.Rows.{fateNumber}
+use mathlib.Core.Path.{_≡_}
 
 -- whose request it is: its face, and the name, flags and class of its entry
 pub record Key : Type 0 where
@@ -68,3 +71,9 @@ isOf f name p m k = eqb (k .face) f && (sameBytes name (k .name) && Bool·beq p 
 unfoldable pub like : Happening → Key → Bool
 unfolding isOf
 like h k = isOf (h .face) (h .name) (h .canBePrefix) (h .mustBeFresh) k
+
+-- of the keys that p holds of: opened = answered + ended by Nack + expired + ended by closing + self-met + standing in the table
+abbrev pub Accounted : (Key → Bool) → List Happening → List Entry → Type 0
+Accounted p hs es =
+    counted opened p hs
+    ≡ counted answered p hs + counted nacked p hs + counted expired p hs + counted closed p hs + counted selfMet p hs + openNow p es

@@ -1,5 +1,5 @@
--- The shape of the nodes that events lead to: how long each list is, what stands where, and that nothing stands twice. That the empty node has
--- it and that every event keeps it is in `ShapeKept`.
+-- The shape of the nodes that events lead to: how long each list is, what stands where, and that nothing stands twice. That the empty
+-- node has it and that every event keeps it is in `ShapeKept`.
 -- Assumes nothing.
 use Prim.Native.Nat.{ℕ, _≤_}
 use mathlib.Core.Path.{_≡_}
@@ -7,17 +7,18 @@ use mathlib.Core.Bool.{true, false}
 use mathlib.Core.List.{List}
 use mathlib.Core.Option.{Option, some}
 use lib.ListN.{length}
-use native.Mathlib.Omega.{arith}
-use Rattle.packets.specs.Laws.Shape.{Well}
+use Rattle.packets.specs.Well.{Well}
 use Rattle.records.specs.Slots.{slot, isSome, each}
 use Rattle.records.specs.Face.{Face, isOpen}
 use Rattle.records.specs.Route.{Route}
 use Rattle.records.specs.Entry.{Entry, isIdle, roomTaken}
 use Rattle.records.specs.Stored.{Stored}
-use Rattle.rules.specs.Node.{Node, mostRoutes, mostEntries, mostStored, mostDead}
-use Rattle.history.specs.Every.{All}
-use Rattle.history.specs.Apart.{Apart}
-use Rattle.records.specs.Laws.Use.{entries-most}
+use Rattle.records.specs.Happening.{Happening}
+use Rattle.sizes.specs.Sizes.{mostFaces, mostRoutes, mostEntries, mostStored, mostDead, mostName, mostPacket, mostCost, leastBuffer}
+use Rattle.rules.specs.Node.{Node, Event, emptyNode}
+use Rattle.history.specs.Lists.{All, Apart}
+use Rattle.rules.specs.Outcome.{Outcome}
+use Rattle.rules.specs.Step.{run, outcomes, history, paperNode}
 
 -- what is kept for a face is kept for an open one
 abbrev pub AtOpen : {A : Type 0} → List (Option Face) → List (Option A) → Type 0
@@ -35,15 +36,15 @@ pub record EntryShaped (faces : ℕ) (fs : List (Option Face)) (e : Entry) : Typ
 
 -- a route: a prefix of 255 bytes at most, a slot for each face, and hops at open faces, with costs in range
 pub record RouteShaped (faces : ℕ) (fs : List (Option Face)) (r : Route) : Type 0 where
-  pub name : length (r .name) ≤ 255
+  pub name : length (r .name) ≤ mostName
   pub hops : length (r .hops) ≡ faces
   pub to : AtOpen fs (r .hops)
-  pub costs : (f c : ℕ) → slot f (r .hops) ≡ some c → c ≤ 65535
+  pub costs : (f c : ℕ) → slot f (r .hops) ≡ some c → c ≤ mostCost
 
 -- a stored Data: a name of 255 bytes at most, and a packet of 1,500 at most
 pub record StoredShaped (d : Stored) : Type 0 where
-  pub name : length (d .name) ≤ 255
-  pub bytes : length (d .bytes) ≤ 1500
+  pub name : length (d .name) ≤ mostName
+  pub bytes : length (d .bytes) ≤ mostPacket
 
 -- two entries: not one name and both flags
 abbrev pub OtherEntry : Entry → Entry → Type 0
@@ -83,6 +84,18 @@ pub record Shaped (faces : ℕ) (n : Node) : Type 0 where
   pub store : StoreShaped (n .store)
   pub dead : length (n .dead) ≤ mostDead
 
--- "pending entries 64": the room rule keeps them so few
-pub few-entries : {faces : ℕ} {n : Node} → Shaped faces n → length (n .pending) ≤ mostEntries
-few-entries {faces} {n} s = omega (arith, s .pending .room, entries-most (n .pending))
+-- the node that events lead to, from an empty one
+abbrev pub reached : (faces least : ℕ) → List Event → Node
+reached faces least es = run faces least es (emptyNode faces)
+
+-- that node after events
+abbrev pub paperRun : List Event → Node
+paperRun es = run mostFaces leastBuffer es paperNode
+
+-- the outcomes of its events
+abbrev pub paperOutcomes : List Event → List Outcome
+paperOutcomes es = outcomes mostFaces leastBuffer es paperNode
+
+-- their history
+abbrev pub paperHistory : List Event → List Happening
+paperHistory es = history mostFaces leastBuffer es paperNode

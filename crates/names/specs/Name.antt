@@ -1,13 +1,14 @@
 -- Names over the bytes of a Name's value: components, equality, prefix and scope.
 -- Assumes nothing.
 use Prim.Native.Nat.{ℕ}
-use mathlib.Core.Bool.{Bool, true, false, _&&_, _||_}
+use mathlib.Core.Bool.{Bool, true, false, _&&_}
 use mathlib.Core.List.{List, [], _∷_}
 use lib.ListN.{length, take}
 use lib.Dec.{ltb, eqb}
 use Rattle.laws.specs.Lists.{anyOf}
 use Rattle.laws.specs.Pick.{pick}
-use Rattle.wire.specs.Element.{element, onward, Split, atMost, elements, ended}
+use Rattle.wire.specs.declared.verdict.Verdict.{Verdict}
+use Rattle.wire.specs.Element.{element, onward, Split, elements, ended}
 use Rattle.names.specs.declared.component.Counted.{Counted}
 
 -- a component: its type and its value
@@ -32,14 +33,18 @@ tooHigh c = ltb 65535 (c .typ)
 unfoldable pub marked : Component → Bool
 marked c = ltb (c .typ) 3
 
--- malformed where the bytes are not components to the last one or a type is too high, else unsupported where a type is marked, else
--- how many components there are
+-- what a Name's bytes say, and how many components they are
+abbrev pub counts : Verdict → ℕ → Counted
+counts v n = record { said = v; count = n }
+
+-- malformed, with no component, where the bytes are not components to the last one or a type is too high; else unsupported where a type
+-- is marked
 unfoldable pub judged : Split Component → Counted
 judged p =
     pick (ended p)
-    (pick (anyOf tooHigh (p .items)) Counted.Malformed
-    (pick (anyOf marked (p .items)) Counted.Unsupported (Counted.Count (length (p .items)))))
-    Counted.Malformed
+    (pick (anyOf tooHigh (p .items)) (counts Verdict.Malformed 0)
+    (counts (pick (anyOf marked (p .items)) Verdict.Unsupported Verdict.Fine) (length (p .items))))
+    (counts Verdict.Malformed 0)
 
 -- what a Name's value says
 unfoldable pub counted : List ℕ → Counted

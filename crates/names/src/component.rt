@@ -1,16 +1,16 @@
 // A name's components, and the scope that its first one says.
 use wire::Cursor;
 use wire::Read;
+use wire::Verdict;
 ghost use mathlib.Core.Path.{_≡_};
 ghost use mathlib.Core.Bool.{_||_};
 ghost use lib.Dec.{ltb};
 ghost use Rattle.names.specs.Name.{counted, firstIs, underLocalhost, underLocalhop};
 
-// What a name's bytes say: malformed (5), unsupported (6), or how many components they are.
-pub enum Counted {
-    Malformed,
-    Unsupported,
-    Count(usize),
+// What a name's bytes say, and how many components they are; none where they are malformed.
+pub struct Counted {
+    pub said: Verdict,
+    pub count: usize,
 }
 
 // Whether a component of a marked type, 1 or 2, was met, with one of type typ more.
@@ -33,11 +33,17 @@ pub fn count_components(name: &[u8]) -> Counted
     while at < name.len() {
         match (Cursor { at: at }).element(name) {
             Read::Bad => {
-                return Counted::Malformed;
+                return Counted {
+                    said: Verdict::Malformed,
+                    count: 0,
+                };
             }
             Read::Is(e, next) => {
                 if 65535 < e.typ {
-                    return Counted::Malformed;
+                    return Counted {
+                        said: Verdict::Malformed,
+                        count: 0,
+                    };
                 }
                 met = noted(met, e.typ);
                 count += 1;
@@ -46,9 +52,15 @@ pub fn count_components(name: &[u8]) -> Counted
         }
     }
     if met {
-        return Counted::Unsupported;
+        return Counted {
+            said: Verdict::Unsupported,
+            count: count,
+        };
     }
-    Counted::Count(count)
+    Counted {
+        said: Verdict::Fine,
+        count: count,
+    }
 }
 
 // Whether the first component is of type 8 and has the bytes of word: the one comparison of every scope decision.

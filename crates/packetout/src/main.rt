@@ -3,7 +3,7 @@
 // The input, at most 65,536 bytes, is groups of a length, as a tape writes numbers, and a packet of that many bytes. A line is the
 // packet's position, its answer, and where that is 0 the kind and fields. An unreadable group prints `bad` and its offset and ends the run.
 use answers::Answer;
-use packets::Header;
+use packethead::Header;
 use packets::Hop;
 use packets::Interest;
 use packets::Packet;
@@ -71,7 +71,7 @@ fn flag(b: bool) {
 
 // Name, flags and nonce of the Interest in s.
 fn request(s: &[u8], i: Interest) {
-    hex(packets::find_name(s));
+    hex(packethead::find_name(s));
     flag(i.can_be_prefix);
     flag(i.must_be_fresh);
     io::write_all(1, b" ");
@@ -108,7 +108,7 @@ fn meaning(s: &[u8], p: Packet) {
         Packet::Data(d) => {
             word(0);
             word(2);
-            hex(packets::find_name(s));
+            hex(packethead::find_name(s));
             word(d.freshness);
         }
         Packet::Nack(reason, i) => {
@@ -122,7 +122,7 @@ fn meaning(s: &[u8], p: Packet) {
 
 // The packet s, as it came.
 fn packet(s: &[u8]) {
-    match packets::read_header(s) {
+    match packethead::read_header(s) {
         Header::Refused(a) => refused(a),
         Header::Bare(b) => {
             let from = b.from;

@@ -1,7 +1,5 @@
-pub mod Header
 pub mod Bare
+pub mod Heard
 pub mod Name
 pub mod Shape
 pub mod View
-pub mod Find
-pub mod Part

@@ -1,6 +1,5 @@
-pub mod Header
 pub mod Bare
 pub mod Meaning
-pub mod Name
+pub mod Well
 pub mod Places
 pub mod Laws

@@ -1,3 +1,2 @@
-pub mod Header
 pub mod Bare
 pub mod View

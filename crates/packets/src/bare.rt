@@ -1,23 +1,24 @@
 // The bare packet: an Interest or a Data; with a Nack, an Interest.
-use crate::header::Nacked;
-use crate::header::part_at;
-use crate::header::whole_of;
 use answers::Answer;
 use grammar::Found;
 use grammar::Place;
+use grammar::order;
+use grammar::types;
 use names::Counted;
+use packethead::Nacked;
+use packethead::part_at;
+use packethead::whole_of;
 use wire::Cursor;
 use wire::Read;
 ghost use mathlib.Core.Path.{_≡_};
 ghost use Prim.Native.Nat.{_+_, _^_, _<_};
 ghost use lib.ListN.{length};
-ghost use Rattle.names.specs.declared.component.Counted.{Counted};
-ghost use Rattle.grammar.specs.Table.{interest, dat};
+ghost use Rattle.grammar.specs.Types as types;
 ghost use Rattle.grammar.specs.Walk.{walked};
 ghost use Rattle.packets.specs.Bare.{bareRead};
 ghost use Rattle.packets.specs.Places.Bare.{interestIn, packetIn};
 ghost use Rattle.packets.specs.Places.Bare.{thereAt, movedBy, lifetimeAt, freshnessAt, hopAt, nackedPacket, IsFound};
-ghost use Rattle.packets.specs.Places.Bare.{nameSays, namedInterestFrom, interestFrom, NamedDataFrom, dataFrom};
+ghost use Rattle.packets.specs.Places.Bare.{namedInterestFrom, interestFrom, NamedDataFrom, dataFrom};
 
 // The HopLimit and its place, or that there is none.
 pub enum Hop {
@@ -78,11 +79,11 @@ fn lifetime_of(v: &[u8], p: Place) -> u64
     ensures { λ r. ⌜ r ≡ lifetimeAt (now (v .entry)) p ⌝ }
 {
     if p.at == 0 {
-        return 4000;
+        return sizes::USUAL_LIFETIME;
     }
     let n = whole_of(part_at(v, p));
-    if 60000 < n {
-        return 60000;
+    if sizes::MOST_LIFETIME < n {
+        return sizes::MOST_LIFETIME;
     }
     n
 }
@@ -92,8 +93,8 @@ fn freshness_of(m: &[u8], p: Place) -> u64
     ensures { λ r. ⌜ r ≡ freshnessAt (now (m .entry)) p ⌝ }
 {
     let n = whole_of(part_at(m, p));
-    if 86400000 < n {
-        return 86400000;
+    if sizes::MOST_FRESHNESS < n {
+        return sizes::MOST_FRESHNESS;
     }
     n
 }
@@ -111,15 +112,15 @@ fn hop_of(v: &[u8], p: Place, base: usize) -> Hop
 
 // The Interest whose elements were found in its value, which stands at base.
 fn made(v: &[u8], f: Found, base: usize) -> Interest
-    requires { ⌜ IsFound interest (now v) base f ⌝ }
-    ensures { λ r. ⌜ r ≡ interestIn (base + length (now (v .entry))) (walked interest (now (v .entry))) ⌝ }
+    requires { ⌜ IsFound types.interest (now v) base f ⌝ }
+    ensures { λ r. ⌜ r ≡ interestIn (base + length (now (v .entry))) (walked types.interest (now (v .entry))) ⌝ }
 {
-    let name = f.places[1];
-    let prefix = f.places[2];
-    let fresh = f.places[3];
-    let nonce = f.places[5];
-    let lifetime = f.places[6];
-    let hop = f.places[7];
+    let name = f.places[order::NAME];
+    let prefix = f.places[order::CAN_BE_PREFIX];
+    let fresh = f.places[order::MUST_BE_FRESH];
+    let nonce = f.places[order::NONCE];
+    let lifetime = f.places[order::LIFETIME];
+    let hop = f.places[order::HOP_LIMIT];
     Interest {
         name: shifted(name, base),
         can_be_prefix: is_there(prefix),
@@ -140,42 +141,37 @@ fn with_nack(nack: Nacked, i: Interest) -> Packet
     }
 }
 
-// An Interest whose elements are there and whose name has n components: "one component or more"; 6, in the header or in the Interest;
+// An Interest whose elements are there, by what its name says: "one component or more"; 6, in the header, in the Interest or in the name;
 // then the name's size.
-fn counted_interest(v: &[u8], f: Found, base: usize, nack: Nacked, marked: bool, n: usize) -> Packet
-    requires { ⌜ IsFound interest (now v) base f ⌝ }
-    ensures { λ r. ⌜ r ≡ namedInterestFrom nack marked base (now (v .entry)) (Counted.Count n) ⌝ }
+fn named_interest(v: &[u8], f: Found, base: usize, nack: Nacked, marked: bool, c: Counted) -> Packet
+    requires { ⌜ IsFound types.interest (now v) base f ⌝ }
+    ensures { λ r. ⌜ r ≡ namedInterestFrom nack marked base (now (v .entry)) c ⌝ }
 {
-    let name = f.places[1];
-    if n == 0 {
+    let name = f.places[order::NAME];
+    let own = f.said;
+    let said = c.said;
+    if said.is_malformed() {
+        return Packet::Refused(Answer::Malformed);
+    }
+    if c.count == 0 {
         return Packet::Refused(Answer::Malformed);
     }
     if marked {
         return Packet::Refused(Answer::Unsupported);
     }
-    if f.said == 6 {
+    if own.is_unsupported() {
         return Packet::Refused(Answer::Unsupported);
     }
-    if 255 < name.len {
+    if said.is_unsupported() {
+        return Packet::Refused(Answer::Unsupported);
+    }
+    if sizes::NAME < name.len {
         return Packet::Refused(Answer::TooLong);
     }
-    if 16 < n {
+    if sizes::COMPONENTS < c.count {
         return Packet::Refused(Answer::TooLong);
     }
     with_nack(nack, made(v, f, base))
-}
-
-// An Interest whose elements are there, by what its name says.
-fn named_interest(v: &[u8], f: Found, base: usize, nack: Nacked, marked: bool) -> Packet
-    requires { ⌜ IsFound interest (now v) base f ⌝ }
-    ensures { λ r. ⌜ r ≡ namedInterestFrom nack marked base (now (v .entry)) (nameSays interest (now (v .entry))) ⌝ }
-{
-    let name = f.places[1];
-    match names::count_components(part_at(v, name)) {
-        Counted::Malformed => Packet::Refused(Answer::Malformed),
-        Counted::Unsupported => Packet::Refused(Answer::Unsupported),
-        Counted::Count(n) => counted_interest(v, f, base, nack, marked, n),
-    }
 }
 
 // The value of an Interest, which stands at base. "5, 6, name size (4)": 5 anywhere comes first, then 6, in the header too.
@@ -183,10 +179,11 @@ fn read_interest(v: &[u8], base: usize, nack: Nacked, marked: bool) -> Packet
     requires { ⌜ base + length (now v) < 2 ^ 64 ⌝ }
     ensures { λ r. ⌜ r ≡ interestFrom nack marked base (now (v .entry)) ⌝ }
 {
-    let f = grammar::walk(v, grammar::INTEREST);
-    let name = f.places[1];
-    let nonce = f.places[5];
-    if f.said == 5 {
+    let f = grammar::walk(v, types::INTEREST);
+    let name = f.places[order::NAME];
+    let nonce = f.places[order::NONCE];
+    let said = f.said;
+    if said.is_malformed() {
         return Packet::Refused(Answer::Malformed);
     }
     if name.at == 0 {
@@ -195,22 +192,30 @@ fn read_interest(v: &[u8], base: usize, nack: Nacked, marked: bool) -> Packet
     if nonce.at == 0 {
         return Packet::Refused(Answer::Malformed);
     }
-    named_interest(v, f, base, nack, marked)
+    let c = names::count_components(part_at(v, name));
+    named_interest(v, f, base, nack, marked, c)
 }
 
-// A Data whose elements are there and whose name has n components: 6 in the header, then the name's size.
-fn counted_data(v: &[u8], f: Found, base: usize, marked: bool, freshness: u64, n: usize) -> Packet
-    requires { ⌜ IsFound dat (now v) base f ⌝ }
-    ensures { λ r. ⌜ NamedDataFrom marked base (now (v .entry)) freshness (Counted.Count n) r ⌝ }
+// A Data whose elements are there, by what its name says: 6, in the header or in the name, then the name's size.
+fn named_data(v: &[u8], f: Found, base: usize, marked: bool, freshness: u64, c: Counted) -> Packet
+    requires { ⌜ IsFound types.dat (now v) base f ⌝ }
+    ensures { λ r. ⌜ NamedDataFrom marked base (now (v .entry)) freshness c r ⌝ }
 {
-    let name = f.places[1];
+    let name = f.places[order::NAME];
+    let said = c.said;
+    if said.is_malformed() {
+        return Packet::Refused(Answer::Malformed);
+    }
     if marked {
         return Packet::Refused(Answer::Unsupported);
     }
-    if 255 < name.len {
+    if said.is_unsupported() {
+        return Packet::Refused(Answer::Unsupported);
+    }
+    if sizes::NAME < name.len {
         return Packet::Refused(Answer::TooLong);
     }
-    if 16 < n {
+    if sizes::COMPONENTS < c.count {
         return Packet::Refused(Answer::TooLong);
     }
     Packet::Data(Data {
@@ -219,30 +224,18 @@ fn counted_data(v: &[u8], f: Found, base: usize, marked: bool, freshness: u64, n
     })
 }
 
-// A Data whose elements are there, by what its name says; its MetaInfo tells the freshness.
-fn named_data(v: &[u8], f: Found, base: usize, marked: bool, freshness: u64) -> Packet
-    requires { ⌜ IsFound dat (now v) base f ⌝ }
-    ensures { λ r. ⌜ NamedDataFrom marked base (now (v .entry)) freshness (nameSays dat (now (v .entry))) r ⌝ }
-{
-    let name = f.places[1];
-    match names::count_components(part_at(v, name)) {
-        Counted::Malformed => Packet::Refused(Answer::Malformed),
-        Counted::Unsupported => Packet::Refused(Answer::Unsupported),
-        Counted::Count(n) => counted_data(v, f, base, marked, freshness, n),
-    }
-}
-
 // The value of a Data, which stands at base. Where there is no MetaInfo its place is empty, and nothing is found in it.
 fn read_data(v: &[u8], base: usize, marked: bool) -> Packet
     requires { ⌜ base + length (now v) < 2 ^ 64 ⌝ }
     ensures { λ r. ⌜ r ≡ dataFrom marked base (now (v .entry)) ⌝ }
 {
-    let f = grammar::walk(v, grammar::DATA);
-    let name = f.places[1];
-    let meta = f.places[2];
-    let info = f.places[4];
-    let signature = f.places[5];
-    if f.said == 5 {
+    let f = grammar::walk(v, types::DATA);
+    let name = f.places[order::NAME];
+    let meta = f.places[order::META_INFO];
+    let info = f.places[order::SIGNATURE_INFO];
+    let signature = f.places[order::SIGNATURE_VALUE];
+    let said = f.said;
+    if said.is_malformed() {
         return Packet::Refused(Answer::Malformed);
     }
     if name.at == 0 {
@@ -255,12 +248,14 @@ fn read_data(v: &[u8], base: usize, marked: bool) -> Packet
         return Packet::Refused(Answer::Malformed);
     }
     let held = part_at(v, meta);
-    let m = grammar::walk(held, grammar::META);
-    let period = m.places[2];
-    if m.said == 5 {
+    let m = grammar::walk(held, types::META_INFO);
+    let period = m.places[order::FRESHNESS];
+    let inner = m.said;
+    if inner.is_malformed() {
         return Packet::Refused(Answer::Malformed);
     }
-    named_data(v, f, base, marked, freshness_of(held, period))
+    let c = names::count_components(part_at(v, name));
+    named_data(v, f, base, marked, freshness_of(held, period), c)
 }
 
 // "A Fragment holds a bare Interest or Data, with Nack an Interest; else 5."
@@ -273,13 +268,13 @@ pub fn read_bare(s: &[u8], nack: Nacked, marked: bool) -> Packet
             if next.at < s.len() {
                 return Packet::Refused(Answer::Malformed);
             }
-            let row = grammar::row_of(grammar::FRAGMENT, e.typ);
+            let row = grammar::row_of(types::FRAGMENT, e.typ);
             let from = e.at;
             let to = from + e.len;
-            if row.order == 1 {
+            if row.order == order::INTEREST as u16 {
                 return read_interest(&s[from..to], from, nack, marked);
             }
-            if row.order == 2 {
+            if row.order == order::DATA as u16 {
                 match nack {
                     Nacked::No => {
                         return read_data(&s[from..to], from, marked);

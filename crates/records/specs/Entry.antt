@@ -2,16 +2,16 @@
 -- out-record (nonce, send time, Nack reason)."
 -- Assumes nothing.
 use Prim.Native.Nat.{ℕ, _+_, _-_, max}
-use mathlib.Core.Bool.{Bool, true, false, _&&_, _||_, not, Bool·beq}
-use mathlib.Core.List.{List, [], _∷_, _++_, map}
+use mathlib.Core.Bool.{Bool, _&&_, _||_, not, Bool·beq}
+use mathlib.Core.List.{List, [], _∷_, map}
 use mathlib.Core.Option.{Option, none, some}
 use lib.ListN.{length}
-use lib.Dec.{ltb, leb, eqb}
+use lib.Dec.{ltb, eqb}
 use Rattle.laws.specs.Pick.{pick}
-use Rattle.laws.specs.Lists.{indexOf}
+use Rattle.sizes.specs.Sizes.{resendTime}
 use Rattle.names.specs.Name.{sameBytes, prefixOf}
-use Rattle.records.specs.Class.{Class, alarm, monitoring, bulk, noClass}
-use Rattle.records.specs.Slots.{noSlots, slot, setSlot, isSome, holds, Held, held, anyOf, only, isEmpty}
+use Rattle.records.specs.Class.{Class, alarm, monitoring, bulk, isClass, reserve, isOf, lower}
+use Rattle.records.specs.Slots.{slot, setSlot, emptied, isSome, holds, Held, held, anyOf, only, leastFace, isEmpty, given}
 
 -- a request, the in-record
 pub record Request : Type 0 where
@@ -24,6 +24,7 @@ pub record Sent : Type 0 where
   pub time : ℕ
   pub nacked : Option ℕ
 
+-- a pending entry: what it is known by, its class, and for each face the request and the out-record, if there is one
 pub record Entry : Type 0 where
   pub name : List ℕ
   pub canBePrefix : Bool
@@ -38,11 +39,37 @@ isKnown name p m e = sameBytes name (e .name) && Bool·beq p (e .canBePrefix) &&
 
 -- the entry with other requests
 unfoldable pub withRequests : List (Option Request) → Entry → Entry
-withRequests rs e = record { name = e .name; canBePrefix = e .canBePrefix; mustBeFresh = e .mustBeFresh; cls = e .cls; requests = rs; sent = e .sent }
+withRequests rs e =
+    record { name = e .name; canBePrefix = e .canBePrefix; mustBeFresh = e .mustBeFresh; cls = e .cls; requests = rs; sent = e .sent }
 
 -- the entry with other out-records
 unfoldable pub withSent : List (Option Sent) → Entry → Entry
-withSent ss e = record { name = e .name; canBePrefix = e .canBePrefix; mustBeFresh = e .mustBeFresh; cls = e .cls; requests = e .requests; sent = ss }
+withSent ss e =
+    record { name = e .name; canBePrefix = e .canBePrefix; mustBeFresh = e .mustBeFresh; cls = e .cls; requests = e .requests; sent = ss }
+
+-- "open this face's request, or renew it with the new nonce and expiry"
+unfoldable pub asking : ℕ → Request → Entry → Entry
+asking f r e = withRequests (setSlot f (some r) (e .requests)) e
+
+-- the entry without a face's request
+unfoldable pub notAsking : ℕ → Entry → Entry
+notAsking f e = withRequests (setSlot f none (e .requests)) e
+
+-- the entry without the requests of the faces that p holds of
+unfoldable pub ending : (ℕ → Bool) → Entry → Entry
+ending p e = withRequests (emptied p (e .requests)) e
+
+-- "A send sets the out-record anew"
+unfoldable pub sending : ℕ → Sent → Entry → Entry
+sending f s e = withSent (setSlot f (some s) (e .sent)) e
+
+-- the entry without a face's out-record
+unfoldable pub notSent : ℕ → Entry → Entry
+notSent f e = withSent (setSlot f none (e .sent)) e
+
+-- "the earliest one, ties to the lower face": of the out-records, the earliest of the faces that p holds of
+unfoldable pub earliestOf : (ℕ → Bool) → Entry → Option ℕ
+earliestOf p e = leastFace (λ s. s .time) p (e .sent)
 
 -- whether an entry has no requests
 unfoldable pub isIdle : Entry → Bool
@@ -72,15 +99,11 @@ ownNonce f n e = holds (λ r. eqb (r .nonce) n) (slot f (e .requests))
 -- the time of the newest out-record, if there is one
 unfoldable pub newestOf : List (Held Sent) → Option ℕ
 newestOf [] = none
-newestOf (h ∷ hs) = go (newestOf hs)
-  where
-    go : Option ℕ → Option ℕ
-    go none = some (h .what .time)
-    go (some t) = some (max (h .what .time) t)
+newestOf (h ∷ hs) = some (given (h .what .time) (max (h .what .time)) (newestOf hs))
 
 -- "If the newest out-record was sent under 100 ms ago, send nothing."
 unfoldable pub isSuppressed : ℕ → Entry → Bool
-isSuppressed now e = holds (λ t. ltb (now - t) 100) (newestOf (held (e .sent)))
+isSuppressed now e = holds (λ t. ltb (now - t) resendTime) (newestOf (held (e .sent)))
 
 -- "Data matches an entry of equal name, or with CanBePrefix and a name that is its prefix."
 unfoldable pub matches : List ℕ → Entry → Bool
@@ -101,11 +124,7 @@ lesserReason a b = pick (eqb a 0) b (pick (eqb b 0) a (pick (ltb b a) b a))
 -- "the smallest nonzero reason, or 0"
 unfoldable pub smallestReason : List (Held Sent) → ℕ
 smallestReason [] = 0
-smallestReason (h ∷ hs) = lesserReason (go (h .what .nacked)) (smallestReason hs)
-  where
-    go : Option ℕ → ℕ
-    go none = 0
-    go (some n) = n
+smallestReason (h ∷ hs) = lesserReason (given 0 (λ n. n) (h .what .nacked)) (smallestReason hs)
 
 -- the out-record with a Nack's reason
 unfoldable pub markNacked : ℕ → Option Sent → Option Sent
@@ -128,30 +147,15 @@ sentNonce f nonce e = holds (λ s. eqb (s .nonce) nonce) (slot f (e .sent))
 unfoldable pub usedBy : (Class → Bool) → List Entry → ℕ
 usedBy p es = length (only (λ e. p (e .cls)) es)
 
-unfoldable pub isAlarm : Class → Bool
-isAlarm alarm = true
-isAlarm monitoring = false
-isAlarm bulk = false
-isAlarm (noClass n) = false
+-- the larger of a class's reserve and use
+unfoldable pub takenBy : Class → List Entry → ℕ
+takenBy c es = max (reserve c) (usedBy (isOf c) es)
 
-unfoldable pub isMonitoring : Class → Bool
-isMonitoring alarm = false
-isMonitoring monitoring = true
-isMonitoring bulk = false
-isMonitoring (noClass n) = false
-
-unfoldable pub isBulk : Class → Bool
-isBulk alarm = false
-isBulk monitoring = false
-isBulk bulk = true
-isBulk (noClass n) = false
-
-unfoldable pub isOther : Class → Bool
-isOther alarm = false
-isOther monitoring = false
-isOther bulk = false
-isOther (noClass n) = true
-
--- "the sum over the classes of the larger of reserve and use": the reserves are 24, 16 and 8; a word that is no class has none
+-- "the sum over the classes of the larger of reserve and use"; an entry whose class word is no class counts in full
 unfoldable pub roomTaken : List Entry → ℕ
-roomTaken es = max 24 (usedBy isAlarm es) + max 16 (usedBy isMonitoring es) + max 8 (usedBy isBulk es) + usedBy isOther es
+roomTaken es = takenBy alarm es + takenBy monitoring es + takenBy bulk es + usedBy (λ c. not (isClass c)) es
+
+-- the lowest class of the entries that have a request on a face, if there are any
+unfoldable pub classOn : ℕ → List Entry → Option Class
+classOn h [] = none
+classOn h (e ∷ es) = pick (isSome (slot h (e .requests))) (some (given (e .cls) (lower (e .cls)) (classOn h es))) (classOn h es)

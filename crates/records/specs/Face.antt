@@ -1,12 +1,13 @@
 -- Document 01, "Faces and routes": "Opening gives scope and link type (point-to-point, multi-access, ad hoc)."
 -- Assumes nothing.
-use Prim.Native.Nat.{ℕ, _≤_}
+use Prim.Native.Nat.{ℕ}
 use mathlib.Core.Bool.{Bool, true, false, _&&_}
 use mathlib.Core.List.{List}
-use mathlib.Core.Option.{Option, none, some}
-use lib.Dec.{leb}
+use mathlib.Core.Option.{Option}
+use lib.Dec.{leb, eqb}
 use Rattle.records.specs.Slots.{slot, isSome, holds}
 
+-- the link types
 pub data Link : Type 0 where
   pointToPoint : Link
   multiAccess : Link
@@ -17,21 +18,19 @@ pub record Face : Type 0 where
   pub isLocal : Bool
   pub link : Link
 
-unfoldable pub isPointToPoint : Face → Bool
-isPointToPoint f = go (f .link)
-  where
-    go : Link → Bool
-    go pointToPoint = true
-    go multiAccess = false
-    go adHoc = false
+-- the number of a link type, "link(0, 1, 2 as above)"
+abbrev pub linkNumber : Link → ℕ
+linkNumber pointToPoint = 0
+linkNumber multiAccess = 1
+linkNumber adHoc = 2
 
+-- whether a face is point-to-point
+unfoldable pub isPointToPoint : Face → Bool
+isPointToPoint f = eqb (linkNumber (f .link)) 0
+
+-- whether a face is ad hoc
 unfoldable pub isAdHoc : Face → Bool
-isAdHoc f = go (f .link)
-  where
-    go : Link → Bool
-    go pointToPoint = false
-    go multiAccess = false
-    go adHoc = true
+isAdHoc f = eqb (linkNumber (f .link)) 2
 
 -- "number not 1..16": whether f is a face of n
 unfoldable pub isFace : ℕ → ℕ → Bool

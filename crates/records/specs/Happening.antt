@@ -2,8 +2,8 @@
 -- Assumes nothing.
 use Prim.Native.Nat.{ℕ}
 use mathlib.Core.Bool.{Bool}
-use mathlib.Core.List.{List, [], _∷_}
-use Rattle.records.specs.Class.{Class, classNumber}
+use mathlib.Core.List.{List}
+use Rattle.records.specs.Class.{Class}
 use Rattle.records.specs.Slots.{Held}
 use Rattle.records.specs.Entry.{Request, Entry}
 
@@ -41,16 +41,3 @@ happens x now e h = record {
   nonce = h .what .nonce;
   expiry = h .what .expiry;
 }
-
--- the number of a fate, by the order of the total's line: "opened, answered, Nacked, expired, closed, self-met"
-unfoldable pub fateNumber : Fate → ℕ
-fateNumber opened = 1
-fateNumber answered = 2
-fateNumber nacked = 3
-fateNumber expired = 4
-fateNumber closed = 5
-fateNumber selfMet = 6
-
--- a happening as the event notes it: face, class and kind
-unfoldable pub rowOf : Happening → List ℕ
-rowOf h = h .face ∷ classNumber (h .cls) ∷ fateNumber (h .fate) ∷ []

@@ -4,4 +4,5 @@ pub mod Each
 pub mod Least
 pub mod Lookup
 pub mod Place
+pub mod Slot
 pub mod Use

@@ -7,4 +7,6 @@ pub mod Stored
 pub mod Line
 pub mod Happening
 pub mod Ageing
+pub mod Rows
+pub mod Closing
 pub mod Laws

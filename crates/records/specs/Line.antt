@@ -6,8 +6,10 @@ use mathlib.Core.List.{List, [], _∷_, _++_}
 use lib.ListN.{length, drop}
 use lib.Dec.{ltb, eqb}
 use Rattle.laws.specs.Pick.{pick}
+use Rattle.sizes.specs.Sizes.{deadTime}
 use Rattle.records.specs.Slots.{anyOf}
 
+-- a line of the list: a fingerprint, and when it joined
 pub record Line : Type 0 where
   pub print : ℕ
   pub time : ℕ
@@ -23,8 +25,8 @@ joinedAll size ls (x ∷ xs) = joinedAll size (joined size ls x) xs
 
 -- "A line counts while now minus its time is under 6,000."
 unfoldable pub counts : ℕ → ℕ → Line → Bool
-counts now print x = eqb (x .print) print && ltb (now - x .time) 6000
+counts now print x = eqb (x .print) print && ltb (now - x .time) deadTime
 
--- whether a fingerprint is live
+-- "a live fingerprint equals this one": whether some line with this fingerprint counts now
 unfoldable pub isDead : ℕ → ℕ → List Line → Bool
 isDead now print ls = anyOf (counts now print) ls

@@ -1,17 +1,18 @@
--- Routes: a prefix, its class, and the cost of each next hop.
+-- Document 01, "Faces and routes": routes.
 -- Assumes nothing.
 use Prim.Native.Nat.{ℕ}
-use mathlib.Core.Bool.{Bool, true, false}
-use mathlib.Core.List.{List, [], _∷_, _++_, map}
+use mathlib.Core.Bool.{Bool}
+use mathlib.Core.List.{List, [], _∷_}
 use mathlib.Core.Option.{Option, none, some}
 use lib.ListN.{length}
 use lib.Dec.{ltb}
 use Rattle.laws.specs.Pick.{pick}
-use Rattle.laws.specs.Lists.{indexOf, onAt, without}
+use Rattle.laws.specs.Lists.{indexOf}
 use Rattle.names.specs.Name.{sameBytes, prefixOf}
 use Rattle.records.specs.Class.{Class}
-use Rattle.records.specs.Slots.{given, atPlace, noSlots, slot, setSlot, Held, held, only}
+use Rattle.records.specs.Slots.{given, atPlace, noSlots, slot, setSlot, leastFace}
 
+-- a route: its prefix, its class, and the cost of the next hop on each face, if there is one
 pub record Route : Type 0 where
   pub name : List ℕ
   pub cls : Class
@@ -47,12 +48,6 @@ unfoldable pub longest : List ℕ → List Route → Option Route
 longest name [] = none
 longest name (r ∷ rs) = pick (prefixOf (r .name) name) (longer r (longest name rs)) (longest name rs)
 
--- the one that measures less, the first where they measure the same
-unfoldable pub lessBy : {A : Type 0} → (Held A → ℕ) → Held A → Option (Held A) → Option (Held A)
-lessBy by h none = some h
-lessBy by h (some k) = pick (ltb (by k) (by h)) (some k) (some h)
-
--- the one that measures least, "ties to the lower face"
-unfoldable pub leastBy : {A : Type 0} → (Held A → ℕ) → List (Held A) → Option (Held A)
-leastBy by [] = none
-leastBy by (h ∷ hs) = lessBy by h (leastBy by hs)
+-- "the cheapest eligible hop, ties to the lower face": of the hops of a route, the cheapest that p holds of
+unfoldable pub cheapestOf : (ℕ → Bool) → Route → Option ℕ
+cheapestOf p r = leastFace (λ c. c) p (r .hops)

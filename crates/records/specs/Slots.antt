@@ -1,11 +1,11 @@
 -- What is kept for each face: a list of slots, the first for face 1.
 -- Assumes nothing.
-use Prim.Native.Nat.{ℕ, zero, suc, _+_, _-_}
-use mathlib.Core.Bool.{Bool, true, false, _||_}
+use Prim.Native.Nat.{ℕ, zero, suc}
+use mathlib.Core.Bool.{Bool, true, false}
 use mathlib.Core.List.{List, [], _∷_, _++_}
 use mathlib.Core.Option.{Option, none, some}
 use lib.ListN.{getD, set, replicate}
-use lib.Dec.{eqb}
+use lib.Dec.{ltb}
 unfoldable pub use Rattle.laws.specs.Lists.{anyOf}
 use Rattle.laws.specs.Pick.{pick}
 
@@ -13,13 +13,24 @@ use Rattle.laws.specs.Pick.{pick}
 unfoldable pub noSlots : {A : Type 0} → ℕ → List (Option A)
 noSlots n = replicate n none
 
--- the slot of a face
+-- the slot of a face; 0 is no face, and no more is a number past the last slot
 unfoldable pub slot : {A : Type 0} → ℕ → List (Option A) → Option A
-slot f l = getD l (f - 1) none
+slot zero l = none
+slot (suc i) l = getD l i none
 
--- the slots with that of a face set
+-- the slots with that of a face set; a number that is no face sets nothing
 unfoldable pub setSlot : {A : Type 0} → ℕ → Option A → List (Option A) → List (Option A)
-setSlot f x l = set l (f - 1) x
+setSlot zero x l = l
+setSlot (suc i) x l = set l i x
+
+-- the slots, the first being that of face f, without those of the faces that p holds of
+unfoldable pub emptiedFrom : {A : Type 0} → (ℕ → Bool) → ℕ → List (Option A) → List (Option A)
+emptiedFrom p f [] = []
+emptiedFrom p f (x ∷ l) = pick (p f) none x ∷ emptiedFrom p (suc f) l
+
+-- the slots without those of the faces that p holds of
+unfoldable pub emptied : {A : Type 0} → (ℕ → Bool) → List (Option A) → List (Option A)
+emptied p l = emptiedFrom p 1 l
 
 -- whether something is there
 unfoldable pub isSome : {A : Type 0} → Option A → Bool
@@ -30,6 +41,11 @@ isSome (some a) = true
 unfoldable pub holds : {A : Type 0} → (A → Bool) → Option A → Bool
 holds p none = false
 holds p (some a) = p a
+
+-- what is there, or else what is there instead
+unfoldable pub orElse : {A : Type 0} → Option A → Option A → Option A
+orElse none y = y
+orElse (some a) y = some a
 
 -- what f makes of what is there, or d
 unfoldable pub given : {A B : Type 0} → B → (A → B) → Option A → B
@@ -61,6 +77,20 @@ held l = heldFrom 1 l
 unfoldable pub only : {A : Type 0} → (A → Bool) → List A → List A
 only p [] = []
 only p (a ∷ l) = pick (p a) (a ∷ only p l) (only p l)
+
+-- the one that measures less, the first where they measure the same
+unfoldable pub lessBy : {A : Type 0} → (Held A → ℕ) → Held A → Option (Held A) → Option (Held A)
+lessBy by h none = some h
+lessBy by h (some k) = pick (ltb (by k) (by h)) (some k) (some h)
+
+-- the one that measures least, "ties to the lower face"
+unfoldable pub leastBy : {A : Type 0} → (Held A → ℕ) → List (Held A) → Option (Held A)
+leastBy by [] = none
+leastBy by (h ∷ hs) = lessBy by h (leastBy by hs)
+
+-- of the faces that p holds of, the one for which what measures least is kept, "ties to the lower face"
+unfoldable pub leastFace : {A : Type 0} → (A → ℕ) → (ℕ → Bool) → List (Option A) → Option ℕ
+leastFace by p l = given none (λ h. some (h .face)) (leastBy (λ h. by (h .what)) (only (λ h. p (h .face)) (held l)))
 
 -- the lists that f makes of the elements, one after the other
 unfoldable pub each : {A B : Type 0} → (A → List B) → List A → List B

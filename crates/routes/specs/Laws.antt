@@ -1,3 +1,4 @@
+pub mod Bridge
 pub mod Hop
 pub mod Longest
 pub mod Setting

@@ -1,29 +1,30 @@
--- What each operation makes of the routes.
+-- What each operation makes of the routes, and what it answers.
 -- Assumes nothing.
 use Prim.Native.Nat.{ℕ, suc}
 use mathlib.Core.Path.{_≡_}
 use mathlib.Core.Bool.{Bool, true, _&&_, _||_, not}
-use mathlib.Core.List.{List, [], _∷_, _++_, map}
+use mathlib.Core.List.{List, [], _∷_, _++_}
 use mathlib.Core.Option.{Option, none, some}
 use lib.ListN.{length}
 use lib.Dec.{ltb, leb}
+use Rattle.sizes.specs.Sizes.{mostName, mostRoutes}
 use Rattle.laws.specs.Pick.{pick}
 use Rattle.laws.specs.Lists.{onAt}
 use Rattle.names.specs.Name.{prefixOf}
-use Rattle.faces.specs.Set.{hasFace, facesWhere}
+use Rattle.faces.specs.Set.{facesWhere}
 use Rattle.records.specs.Class.{Class, classNumber}
-use Rattle.records.specs.Slots.{slot, isSome, given, held, only}
-use Rattle.records.specs.Face.{isFace}
-use Rattle.records.specs.Route.{Route, routeOf, withClass, newRoute, withHop, longest, leastBy}
-use Rattle.rows.specs.declared.Changed.{Changed}
+use Rattle.records.specs.Slots.{slot, isSome}
+use Rattle.records.specs.Route.{Route, routeOf, withClass, newRoute, longest}
+use Rattle.routes.specs.declared.Settled.{Settled}
+use Rattle.routes.specs.Places.View.{stateOf}
 
 -- whether a prefix is known
 unfoldable pub isRoute : List ℕ → List Route → Bool
 isRoute p rs = ltb (routeOf p rs) (length rs)
 
--- whether a new prefix fits: a row's length, and 32 routes
+-- whether a new prefix fits: a row's length, and the number of routes
 unfoldable pub hasRoom : List ℕ → List Route → Bool
-hasRoom p rs = leb (length p) 255 && ltb (length rs) 32
+hasRoom p rs = leb (length p) mostName && ltb (length rs) mostRoutes
 
 -- the routes with a prefix set to a class, where it is known or fits
 unfoldable pub withRoute : ℕ → List ℕ → Class → List Route → List Route
@@ -31,17 +32,10 @@ withRoute n p c rs =
     pick (isRoute p rs) (onAt (routeOf p rs) (withClass c) rs) (pick (hasRoom p rs) (rs ++ (newRoute n p c ∷ [])) rs)
 
 -- what setting a route comes to: whether it is known or fits, and the routes then
-pub record Sets (n : ℕ) (r : Changed) (after : List Route) (p : List ℕ) (c : Class) (before : List Route) : Type 0 where
+pub record Sets (n : ℕ) (r : Settled) (after : List Route) (p : List ℕ) (c : Class) (before : List Route) : Type 0 where
   pub said : r .fits ≡ (isRoute p before || hasRoom p before)
   pub left : after ≡ withRoute n p c before
-
--- the routes with the hop of a face set or dropped in the one at a place; a number that is no face changes nothing
-unfoldable pub withHopOf : ℕ → ℕ → Option ℕ → ℕ → List Route → List Route
-withHopOf n f x i rs = pick (isFace n f) (onAt i (withHop f x) rs) rs
-
--- the routes without the hops of a face
-unfoldable pub withoutFaceHops : ℕ → ℕ → List Route → List Route
-withoutFaceHops n f rs = pick (isFace n f) (map (withHop f none) rs) rs
+  pub state : r .routes ≡ stateOf after
 
 -- whether nothing that was found after a route is longer
 unfoldable pub isLongest : Route → Option Route → Bool
@@ -60,7 +54,3 @@ classWord r = classNumber (r .cls)
 -- the set of the faces that are next hops
 unfoldable pub hopsOf : ℕ → Route → ℕ
 hopsOf n r = facesWhere n (λ f. isSome (slot f (r .hops)))
-
--- the face of the cheapest next hop in a set, 0 where there is none
-unfoldable pub cheapestOf : ℕ → ℕ → Route → ℕ
-cheapestOf n set r = given 0 (λ h. h .face) (leastBy (λ h. h .what) (only (λ h. hasFace n set (h .face)) (held (r .hops))))

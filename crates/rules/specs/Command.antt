@@ -3,33 +3,31 @@
 use Prim.Native.Nat.{ℕ}
 use mathlib.Core.Bool.{_||_, not}
 use mathlib.Core.List.{List, [], _∷_, _++_, map}
-use mathlib.Core.Option.{Option, none, some}
+use mathlib.Core.Option.{none, some}
 use lib.ListN.{length}
 use lib.Dec.{ltb, leb, eqb}
 use Rattle.answers.specs.declared.Answer.{Answer}
 use Rattle.laws.specs.Pick.{pick}
 use Rattle.laws.specs.Lists.{onAt, without}
-use Rattle.names.specs.declared.component.Counted.{Counted}
+use Rattle.sizes.specs.Sizes.{mostName, mostComponents, mostRoutes, mostCost}
+use Rattle.wire.specs.Verdict.{isMalformed, isUnsupported}
 use Rattle.names.specs.Name.{counted}
 use Rattle.records.specs.Class.{classOf, isClass}
-use Rattle.records.specs.Slots.{slot, setSlot, isSome, only, each}
+use Rattle.records.specs.Slots.{setSlot, isSome, each}
 use Rattle.records.specs.Face.{Link, pointToPoint, multiAccess, adHoc, Face, isOpen}
 use Rattle.records.specs.Route.{routeOf, withClass, newRoute, withHop, hopAt}
-use Rattle.records.specs.Entry.{Request, Sent, Entry, withRequests, withSent, isIdle}
-use Rattle.records.specs.Line.{Line}
-use Rattle.rules.specs.Node.{Node, mostRoutes, printOf, withFaces, withRoutes}
-use Rattle.rules.specs.Outcome.{Outcome, quiet}
-use Rattle.rules.specs.Ageing.{buried, joinDead}
-use Rattle.records.specs.Happening.{closed, Happening, happens}
+use Rattle.records.specs.Ageing.{staying}
+use Rattle.records.specs.Closing.{withoutFace, closingLinesBy, closingEnds}
+use Rattle.rules.specs.Node.{Node, printOf, withFaces, withRoutes, withPending, burying}
+use Rattle.rules.specs.Outcome.{Outcome, quiet, done}
 
 -- "5, 6, name size (4)": a command by its prefix, which may be empty
 unfoldable pub byPrefix : Node → List ℕ → Outcome → Outcome
-byPrefix n p o = go (counted p)
-  where
-    go : Counted → Outcome
-    go Counted.Malformed = quiet Answer.Malformed n
-    go Counted.Unsupported = quiet Answer.Unsupported n
-    go (Counted.Count k) = pick (ltb 255 (length p)) (quiet Answer.TooLong n) (pick (ltb 16 k) (quiet Answer.TooLong n) o)
+byPrefix n p o =
+    pick (isMalformed (counted p .said)) (quiet Answer.Malformed n)
+    (pick (isUnsupported (counted p .said)) (quiet Answer.Unsupported n)
+    (pick (ltb mostName (length p)) (quiet Answer.TooLong n)
+    (pick (ltb mostComponents (counted p .count)) (quiet Answer.TooLong n) o)))
 
 -- "link(0, 1, 2 as above)"
 unfoldable pub linkOf : ℕ → Link
@@ -46,52 +44,23 @@ openStep n f scope link =
     (pick (ltb 1 scope || ltb 2 link) (quiet Answer.BadSetting n)
     (quiet Answer.Done (withFaces n (setSlot f (some (faceOf scope link)) (n .faces)))))
 
--- "the face's out-record goes, its fingerprint joining the dead list": the out-record of a face, as a line
-unfoldable pub ownLine : ℕ → ℕ → Entry → List Line
-ownLine now f e = go (slot f (e .sent))
-  where
-    go : Option Sent → List Line
-    go none = []
-    go (some s) = record { print = printOf (e .name) (s .nonce); time = now } ∷ []
-
--- the entry without a face's request and out-record
-unfoldable pub withoutFace : ℕ → Entry → Entry
-withoutFace f e = withRequests (setSlot f none (e .requests)) (withSent (setSlot f none (e .sent)) e)
-
--- "an entry without requests leaves": the lines that closing a face makes of an entry, its own first
-unfoldable pub closingLines : ℕ → ℕ → Entry → List Line
-closingLines now f e = ownLine now f e ++ pick (isIdle (withoutFace f e)) (buried now (withoutFace f e)) []
-
--- "its request ends"
-unfoldable pub closingEnds : ℕ → ℕ → Entry → List Happening
-closingEnds now f e = go (slot f (e .requests))
-  where
-    go : Option Request → List Happening
-    go none = []
-    go (some r) = happens closed now e (record { face = f; what = r }) ∷ []
-
 -- "Closing goes by entry, oldest opening first .. Its next hops go too; a route without hops stays, class and all."
 unfoldable pub closeStep : ℕ → Node → ℕ → Outcome
-closeStep now n f = record {
-  answer = Answer.Done;
-  node = record {
-    time = n .time;
-    faces = setSlot f none (n .faces);
-    routes = map (withHop f none) (n .routes);
-    pending = only (λ e. not (isIdle e)) (map (withoutFace f) (n .pending));
-    store = n .store;
-    dead = joinDead (n .dead) (each (closingLines now f) (n .pending));
-  };
-  sends = [];
-  happenings = each (closingEnds now f) (n .pending);
-}
+closeStep now n f =
+    done
+    (burying
+    (withPending (withRoutes (withFaces n (setSlot f none (n .faces))) (map (withHop f none) (n .routes)))
+    (staying (map (withoutFace f) (n .pending))))
+    (each (closingLinesBy printOf now f) (n .pending)))
+    [] (each (closingEnds now f) (n .pending))
 
 -- setting a route: 15, then a known prefix, then 16
 unfoldable pub setRouteStep : ℕ → Node → ℕ → List ℕ → Outcome
 setRouteStep faces n c p =
     byPrefix n p
     (pick (not (isClass (classOf c))) (quiet Answer.BadSetting n)
-    (pick (ltb (routeOf p (n .routes)) (length (n .routes))) (quiet Answer.Done (withRoutes n (onAt (routeOf p (n .routes)) (withClass (classOf c)) (n .routes))))
+    (pick (ltb (routeOf p (n .routes)) (length (n .routes)))
+    (quiet Answer.Done (withRoutes n (onAt (routeOf p (n .routes)) (withClass (classOf c)) (n .routes))))
     (pick (leb mostRoutes (length (n .routes))) (quiet Answer.TableFull n)
     (quiet Answer.Done (withRoutes n (n .routes ++ (newRoute faces p (classOf c) ∷ [])))))))
 
@@ -107,11 +76,13 @@ dropRouteStep n p = byPrefix n p (onRoute n p (λ i. quiet Answer.Done (withRout
 unfoldable pub addHopStep : Node → ℕ → ℕ → List ℕ → Outcome
 addHopStep n f cost p =
     byPrefix n p
-    (pick (ltb 65535 cost) (quiet Answer.BadSetting n)
+    (pick (ltb mostCost cost) (quiet Answer.BadSetting n)
     (onRoute n p (λ i. quiet Answer.Done (withRoutes n (onAt i (withHop f (some cost)) (n .routes))))))
 
 -- dropping a hop
 unfoldable pub dropHopStep : Node → ℕ → List ℕ → Outcome
 dropHopStep n f p =
     byPrefix n p
-    (onRoute n p (λ i. pick (isSome (hopAt f i (n .routes))) (quiet Answer.Done (withRoutes n (onAt i (withHop f none) (n .routes)))) (quiet Answer.NoRoute n)))
+    (onRoute n p (λ i.
+    pick (isSome (hopAt f i (n .routes))) (quiet Answer.Done (withRoutes n (onAt i (withHop f none) (n .routes))))
+    (quiet Answer.NoRoute n)))

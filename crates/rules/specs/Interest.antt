@@ -1,7 +1,7 @@
 -- Document 01, "Interest" and "Classes".
 -- Assumes nothing.
 use Prim.Native.Nat.{ℕ, _+_, _-_}
-use mathlib.Core.Bool.{Bool, false, _&&_, _||_, not}
+use mathlib.Core.Bool.{Bool, _&&_, _||_, not}
 use mathlib.Core.List.{List, [], _∷_, _++_}
 use mathlib.Core.Option.{Option, none, some}
 use lib.ListN.{length}
@@ -9,17 +9,18 @@ use lib.Dec.{ltb, eqb}
 use Rattle.answers.specs.declared.Answer.{Answer}
 use Rattle.laws.specs.Pick.{pick}
 use Rattle.laws.specs.Lists.{indexOf, onAt}
+use Rattle.sizes.specs.Sizes.{mostEntries}
 use Rattle.names.specs.Name.{underLocalhost, underLocalhop}
 use Rattle.packets.specs.Meaning.{Ask}
 use Rattle.records.specs.Class.{Class}
-use Rattle.records.specs.Slots.{atPlace, noSlots, slot, setSlot, isSome, holds, Held, held, anyOf, only}
+use Rattle.records.specs.Slots.{atPlace, noSlots, slot, setSlot, isSome, holds, orElse, given, held, anyOf}
 use Rattle.records.specs.Face.{isOpen, isLocalFace, isPeer, isAdHocFace}
-use Rattle.records.specs.Route.{Route, longest, leastBy}
-use Rattle.records.specs.Entry.{Request, Sent, Entry, isKnown, withRequests, withSent, hasNonce, ownNonce, isSuppressed, roomTaken}
+use Rattle.records.specs.Route.{Route, longest, cheapestOf}
+use Rattle.records.specs.Entry.{Request, Sent, Entry, isKnown, asking, sending, earliestOf, hasNonce, ownNonce, isSuppressed, roomTaken}
 use Rattle.records.specs.Stored.{Hit, lookup, touched}
 use Rattle.records.specs.Line.{isDead}
-use Rattle.rules.specs.Node.{Node, mostEntries, printOf, withPending, withStore}
-use Rattle.rules.specs.Outcome.{interest, dat, Send, Outcome, quiet, nameClass, nackFor}
+use Rattle.rules.specs.Node.{Node, printOf, withPending, withStore}
+use Rattle.rules.specs.Outcome.{interest, dat, Send, Outcome, quiet, done, nameClass, nackFor}
 use Rattle.records.specs.Happening.{opened, Happening, happens}
 
 -- an Interest that arrived: its face, what it means, and its bytes as it leaves
@@ -30,8 +31,7 @@ pub record Arrival : Type 0 where
 
 -- "local if HopLimit is present and is 0 after lowering"
 unfoldable pub spent : Option ℕ → Bool
-spent none = false
-spent (some n) = eqb (n - 1) 0
+spent hop = holds (λ k. eqb (k - 1) 0) hop
 
 -- "Eligible": whether the Interest may leave on a face h, where some request is from a local face or not
 unfoldable pub eligible : Node → Arrival → Bool → ℕ → Bool
@@ -48,15 +48,6 @@ requestOf now a = record { nonce = a .ask .nonce; expiry = now + a .ask .lifetim
 unfoldable pub sentOf : ℕ → Arrival → Sent
 sentOf now a = record { nonce = a .ask .nonce; time = now; nacked = none }
 
--- the eligible hops of a route, by face
-unfoldable pub eligibleHops : Node → Arrival → Bool → Option Route → List (Held ℕ)
-eligibleHops n a l none = []
-eligibleHops n a l (some r) = only (λ h. eligible n a l (h .face)) (held (r .hops))
-
--- "the cheapest eligible hop, ties to the lower face"
-unfoldable pub cheapest : List (Held ℕ) → Option (Held ℕ)
-cheapest hs = leastBy (λ h. h .what) hs
-
 -- the place of the Interest's entry, or the number of entries
 unfoldable pub entryOf : Node → Ask → ℕ
 entryOf n i = indexOf (isKnown (i .name) (i .canBePrefix) (i .mustBeFresh)) (n .pending)
@@ -67,7 +58,8 @@ entryLoops n a e = not (isPeer (n .faces) (a .face) && ownNonce (a .face) (a .as
 
 -- "LOOP: a live fingerprint equals this one; or the entry has the nonce .."
 unfoldable pub loops : ℕ → Node → Arrival → Bool
-loops now n a = isDead now (printOf (a .ask .name) (a .ask .nonce)) (n .dead) || holds (entryLoops n a) (atPlace (entryOf n (a .ask)) (n .pending))
+loops now n a =
+    isDead now (printOf (a .ask .name) (a .ask .nonce)) (n .dead) || holds (entryLoops n a) (atPlace (entryOf n (a .ask)) (n .pending))
 
 -- the send of an Interest
 unfoldable pub forwards : Arrival → Class → ℕ → Send
@@ -90,12 +82,8 @@ opens now a e = happens opened now e (record { face = a .face; what = requestOf 
 
 -- "Else open, and send to the cheapest eligible hop"
 unfoldable pub opensEntry : ℕ → Node → Arrival → Class → ℕ → Outcome
-opensEntry now n a c h = record {
-  answer = Answer.Done;
-  node = withPending n (n .pending ++ (newEntry now n a c h ∷ []));
-  sends = forwards a c h ∷ [];
-  happenings = opens now a (newEntry now n a c h) ∷ [];
-}
+opensEntry now n a c h =
+    done (withPending n (n .pending ++ (newEntry now n a c h ∷ []))) (forwards a c h ∷ []) (opens now a (newEntry now n a c h) ∷ [])
 
 -- "NO_ROOM exactly when the sum over the classes of the larger of reserve and use, counting the new entry, exceeds 64."
 unfoldable pub noRoom : Node → Entry → Bool
@@ -108,20 +96,15 @@ mayOpen now n a c h = pick (noRoom n (newEntry now n a c h)) (nackFor Answer.NoR
 -- "NO_ROUTE exactly when there is none or no next hop of it is eligible."
 unfoldable pub routed : ℕ → Node → Arrival → Option Route → Outcome
 routed now n a none = nackFor Answer.NoRoute 150 n (a .face) (a .ask)
-routed now n a (some r) = go (cheapest (eligibleHops n a (isLocalFace (n .faces) (a .face)) (some r)))
-  where
-    go : Option (Held ℕ) → Outcome
-    go none = nackFor Answer.NoRoute 150 n (a .face) (a .ask)
-    go (some h) = mayOpen now n a (r .cls) (h .face)
+routed now n a (some r) =
+    given (nackFor Answer.NoRoute 150 n (a .face) (a .ask)) (mayOpen now n a (r .cls))
+    (cheapestOf (eligible n a (isLocalFace (n .faces) (a .face))) r)
 
--- "a hit sends that Data back and opens nothing"
+-- "a hit sends that Data back and opens nothing"; its class is that of its own name
 unfoldable pub served : Node → Arrival → Hit → Outcome
-served n a h = record {
-  answer = Answer.Done;
-  node = withStore n (touched h (n .store));
-  sends = record { face = a .face; kind = dat; cls = nameClass n (a .ask .name); bytes = h .what .bytes } ∷ [];
-  happenings = [];
-}
+served n a h =
+    done (withStore n (touched h (n .store)))
+    (record { face = a .face; kind = dat; cls = nameClass n (h .what .name); bytes = h .what .bytes } ∷ []) []
 
 -- "No entry: look in the store .. Otherwise take the longest matching route."
 unfoldable pub asksAnew : ℕ → Node → Arrival → Option Hit → Outcome
@@ -133,48 +116,28 @@ unfoldable pub fromLocalFace : Node → Entry → Bool
 fromLocalFace n e = anyOf (λ h. isLocalFace (n .faces) (h .face)) (held (e .requests))
 
 -- "the cheapest eligible hop without an out-record; failing that, the eligible hop with the earliest one, ties to the lower face"
-unfoldable pub nextHop : Entry → List (Held ℕ) → Option ℕ
-nextHop e hs = go (cheapest (only (λ h. not (isSome (slot (h .face) (e .sent)))) hs))
-  where
-    sentAt : Option Sent → ℕ
-    sentAt none = 0
-    sentAt (some s) = s .time
+unfoldable pub nextHop : (ℕ → Bool) → Entry → Route → Option ℕ
+nextHop may e r =
+    orElse (cheapestOf (λ f. may f && not (isSome (slot f (e .sent)))) r) (earliestOf (λ f. may f && isSome (slot f (r .hops))) e)
 
-    earliest : Option (Held ℕ) → Option ℕ
-    earliest none = none
-    earliest (some h) = some (h .face)
-
-    go : Option (Held ℕ) → Option ℕ
-    go (some h) = some (h .face)
-    go none = earliest (leastBy (λ h. sentAt (slot (h .face) (e .sent))) hs)
-
--- "open this face's request, or renew it with the new nonce and expiry"
-unfoldable pub withRequest : ℕ → Arrival → Entry → Entry
-withRequest now a e = withRequests (setSlot (a .face) (some (requestOf now a)) (e .requests)) e
-
--- the hop that a further Interest of an entry takes, if any
+-- the hop "in the longest matching route" that a further Interest of an entry takes, if any
 unfoldable pub resends : ℕ → Node → Arrival → Entry → Option ℕ
 resends now n a e =
-    pick (isSuppressed now e) none (nextHop e (eligibleHops n a (fromLocalFace n e) (longest (a .ask .name) (n .routes))))
+    pick (isSuppressed now e) none (given none (nextHop (eligible n a (fromLocalFace n e)) e) (longest (a .ask .name) (n .routes)))
 
--- the entry as a send leaves it
-unfoldable pub sentOn : ℕ → Arrival → Option ℕ → Entry → Entry
-sentOn now a none e = e
-sentOn now a (some h) e = withSent (setSlot h (some (sentOf now a)) (e .sent)) e
+-- the entry at place i, which is now e, is sent to a hop, if there is one: "A send sets the out-record anew"
+unfoldable pub sendsOn : ℕ → Node → Arrival → ℕ → Entry → Option ℕ → List Happening → Outcome
+sendsOn now n a i e hop hs =
+    done (withPending n (onAt i (λ _. given e (λ h. sending h (sentOf now a) e) hop) (n .pending)))
+    (given [] (λ h. forwards a (e .cls) h ∷ []) hop) hs
 
--- what is sent
-unfoldable pub sendsOn : Arrival → Class → Option ℕ → List Send
-sendsOn a c none = []
-sendsOn a c (some h) = forwards a c h ∷ []
+-- "Entry present": x stands at place i, and is e with this request; "a renewal is the same request"
+unfoldable pub renews : ℕ → Node → Arrival → ℕ → Entry → Entry → Outcome
+renews now n a i x e = sendsOn now n a i e (resends now n a e) (pick (isSome (slot (a .face) (x .requests))) [] (opens now a x ∷ []))
 
--- "Entry present": e stands at place i
+-- "open this face's request, or renew it with the new nonce and expiry": of the entry x at place i
 unfoldable pub asksAgain : ℕ → Node → Arrival → ℕ → Entry → Outcome
-asksAgain now n a i e = record {
-  answer = Answer.Done;
-  node = withPending n (onAt i (λ x. sentOn now a (resends now n a (withRequest now a e)) (withRequest now a x)) (n .pending));
-  sends = sendsOn a (e .cls) (resends now n a (withRequest now a e));
-  happenings = pick (isSome (slot (a .face) (e .requests))) [] (opens now a e ∷ []);
-}
+asksAgain now n a i x = renews now n a i x (asking (a .face) (requestOf now a) x)
 
 -- an Interest past the checks: by its entry, or without one
 unfoldable pub asksEntry : ℕ → Node → Arrival → Option Entry → Outcome
@@ -183,8 +146,7 @@ asksEntry now n a (some e) = asksAgain now n a (entryOf n (a .ask)) e
 
 -- "Interest with HopLimit 0"
 unfoldable pub hopIsZero : Option ℕ → Bool
-hopIsZero none = false
-hopIsZero (some n) = eqb n 0
+hopIsZero hop = holds (λ k. eqb k 0) hop
 
 -- "under /localhost from a non-local face"
 unfoldable pub outOfScope : Node → ℕ → List ℕ → Bool

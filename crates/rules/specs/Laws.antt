@@ -1,11 +1,2 @@
 pub mod Compute
 pub mod Cases
-pub mod Answers
-pub mod Events
-pub mod Exactly
-pub mod Leaves
-pub mod Longest
-pub mod Occur
-pub mod Reading
-pub mod Tells
-pub mod Tests

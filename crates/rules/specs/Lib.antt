@@ -7,5 +7,4 @@ pub mod Nack
 pub mod Command
 pub mod Step
 pub mod Packed
-pub mod Refusals
 pub mod Laws

@@ -19,6 +19,12 @@ pub data Kind : Type 0 where
   dat : Kind
   nack : Kind
 
+-- the number of a kind
+unfoldable pub kindNumber : Kind → ℕ
+kindNumber interest = 1
+kindNumber dat = 2
+kindNumber nack = 3
+
 -- a packet that is sent: the face, the kind, the class that it belongs to, and its bytes
 pub record Send : Type 0 where
   pub face : ℕ
@@ -26,6 +32,7 @@ pub record Send : Type 0 where
   pub cls : Class
   pub bytes : List ℕ
 
+-- the answer, the node afterwards, the packets sent by ascending face, and what happened to requests
 pub record Outcome : Type 0 where
   pub answer : Answer
   pub node : Node
@@ -36,22 +43,25 @@ pub record Outcome : Type 0 where
 unfoldable pub quiet : Answer → Node → Outcome
 quiet a n = record { answer = a; node = n; sends = []; happenings = [] }
 
--- the class of a route, 3 where there is none
+-- an event that is done: the node afterwards, what is sent, and what happened
+abbrev pub done : Node → List Send → List Happening → Outcome
+done n ss hs = record { answer = Answer.Done; node = n; sends = ss; happenings = hs }
+
+-- document 02, request 4: the class of a route, "or 3 if there is none"
 unfoldable pub routeClass : Option Route → Class
 routeClass none = bulk
 routeClass (some r) = r .cls
 
--- the class of the longest route for a name, or 3: that of a refusal's Nack and of Data from the store
+-- the class of the longest route for a name: that of a refusal's Nack, and of Data from the store
 unfoldable pub nameClass : Node → List ℕ → Class
 nameClass n name = routeClass (longest name (n .routes))
 
--- a refusal of an Interest: "Nacks go only to point-to-point faces."
+-- "Nacks go only to point-to-point faces.": the Nack of an Interest on a face, for a reason
+unfoldable pub nacksTo : Node → ℕ → Ask → ℕ → List Send
+nacksTo n f i reason =
+    let bytes = nackBytes reason (i .name) (i .canBePrefix) (i .mustBeFresh) (i .nonce) in
+    pick (isPeer (n .faces) f) (record { face = f; kind = nack; cls = nameClass n (i .name); bytes = bytes } ∷ []) []
+
+-- a refusal of an Interest, with its Nack
 unfoldable pub nackFor : Answer → ℕ → Node → ℕ → Ask → Outcome
-nackFor a reason n f i = record {
-  answer = a;
-  node = n;
-  sends = pick (isPeer (n .faces) f)
-      (record { face = f; kind = nack; cls = nameClass n (i .name); bytes = nackBytes reason (i .name) (i .canBePrefix) (i .mustBeFresh) (i .nonce) } ∷ [])
-      [];
-  happenings = [];
-}
+nackFor a reason n f i = record { answer = a; node = n; sends = nacksTo n f i reason; happenings = [] }

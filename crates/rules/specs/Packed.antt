@@ -22,9 +22,11 @@ pub record Packed : Type 0 where
   pub places : List Placed
   pub buffer : List ℕ
 
+-- a send that stands at a place
 abbrev place : Send → ℕ → Placed
 place s at = record { face = s .face; kind = s .kind; cls = s .cls; from = at; len = length (s .bytes) }
 
+-- a place before others
 abbrev first : Placed → Packed → Packed
 first p r = record { places = p ∷ r .places; buffer = r .buffer }
 

@@ -3,42 +3,79 @@ use names::Order;
 use names::compare;
 use names::is_prefix;
 use names::same;
-use packets::find_name;
-use rows::Changed;
+use packethead::find_name;
 use rows::clamped;
 use rows::part;
+use sizes::PACKET;
+use sizes::STORED;
 use wire::put_bytes;
-ghost use Prim.Native.Nat.{_<_, _≤_};
+ghost use Prim.Native.Nat.{ℕ, _<_, _≤_};
 ghost use mathlib.Core.Path.{_≡_};
-ghost use mathlib.Core.List.{[]};
+ghost use mathlib.Core.List.{List, []};
 ghost use lib.ListN.{length, take};
 ghost use Rattle.laws.specs.Lists.{indexOf, without};
-ghost use Rattle.records.specs.Slots.{given, atPlace};
+ghost use Rattle.sizes.specs.Sizes.{mostPacket, mostStored};
+ghost use Rattle.records.specs.Slots.{given, isSome};
 ghost use Rattle.records.specs.Stored.{serves, isBefore, earlier, lookup};
-ghost use Rattle.store.specs.Places.View.{view, dataOf, storedAt};
+ghost use Rattle.store.specs.Places.View.{view, stateOf, before, after, placed, found, dataOf, storedAt};
 ghost use Rattle.store.specs.Operations.{Puts, recent};
 ghost use Rattle.store.specs.Places.Put.{isNamed, leaver};
 ghost use Rattle.store.specs.Places.Look.{answers, inTime, hit, hitAt};
 
 // "stored Data 8", "Packet at most 1,500 bytes": the packets, lent by the caller.
-pub type Packets = [[u8; 1500]; 8];
+pub type Packets = [[u8; PACKET]; STORED];
 
 // For each packet its length, when it was stored, and its freshness as it counts.
-pub type Heads = [[u64; 3]; 8];
+pub type Heads = [[u64; 3]; STORED];
 
-// How many Data there are.
-pub fn size(packets: &Packets, heads: &Heads, count: usize) -> usize
-    ensures { λ r. ⌜ r ≡ length (view (now (packets .entry)) (now (heads .entry)) count) ⌝ }
-{
-    clamped(count, 8)
+// The columns of a head.
+const LENGTH: usize = 0;
+
+const TIME: usize = 1;
+
+const FRESHNESS: usize = 2;
+
+// How many Data there are. Nobody above reads its field.
+pub struct Store {
+    count: usize,
 }
 
-// The bytes of the Data at a place, where they stand; none where there is no Data.
-pub fn bytes_of<'a>(packets: &'a Packets, heads: &Heads, count: usize, i: usize) -> &'a [u8]
-    ensures { λ r. ⌜ now r ≡ given [] (λ d. d .bytes) (atPlace i (view (now (packets .entry)) (now (heads .entry)) count)) ⌝ }
+// A Data, or none. Nobody above reads its field.
+pub struct Handle {
+    at: usize,
+}
+
+// Whether a Data that was to be stored fits, and the store then.
+pub struct Kept {
+    pub fits: bool,
+    pub store: Store,
+}
+
+// No Data, whatever the memory holds.
+pub fn empty() -> Store
+    ensures { λ r. ⌜ ((packets heads : List (List ℕ)) → view packets heads r ≡ []) ⌝ }
+    ensures { λ r. ⌜ r ≡ stateOf [] ⌝ }
 {
-    if i < clamped(count, 8) {
-        part(&packets[i], heads[i][0])
+    Store { count: 0 }
+}
+
+// Whether a handle stands for a Data.
+pub fn is_there(packets: &Packets, heads: &Heads, store: Store, taken: Handle) -> bool
+    ensures { λ r. ⌜ r ≡ isSome (found packets heads store taken) ⌝ }
+{
+    if taken.at < clamped(store.count, STORED) {
+        return true;
+    }
+    false
+}
+
+// The bytes of a Data, where they stand; none where there is no Data.
+pub fn bytes_of<'a>(packets: &'a Packets, heads: &Heads, store: Store, taken: Handle) -> &'a [u8]
+    ensures { λ r. ⌜ now r ≡ given [] (λ d. d .bytes) (found packets heads store taken) ⌝ }
+{
+    let i = taken.at;
+    if i < clamped(store.count, STORED) {
+        part(&packets[i], heads[i][LENGTH])
     } else {
         part(&packets[0], 0)
     }
@@ -46,17 +83,17 @@ pub fn bytes_of<'a>(packets: &'a Packets, heads: &Heads, count: usize, i: usize)
 
 // The name of the Data in a row, where it stands in the packet.
 fn name_at<'a>(packets: &'a Packets, heads: &Heads, i: usize) -> &'a [u8]
-    requires { ⌜ i < 8 ⌝ }
+    requires { ⌜ i < mostStored ⌝ }
     ensures { λ r. ⌜ now r ≡ storedAt (now (packets .entry)) (now (heads .entry)) i .name ⌝ }
 {
-    find_name(part(&packets[i], heads[i][0]))
+    find_name(part(&packets[i], heads[i][LENGTH]))
 }
 
 // The place of the Data with a name, else the number of Data.
-fn find(packets: &Packets, heads: &Heads, count: usize, name: &[u8]) -> usize
-    ensures { λ r. ⌜ r ≡ indexOf (isNamed (now (name .entry))) (view (now (packets .entry)) (now (heads .entry)) count) ⌝ }
+fn find(packets: &Packets, heads: &Heads, store: Store, name: &[u8]) -> usize
+    ensures { λ r. ⌜ r ≡ indexOf (isNamed (now (name .entry))) (before packets heads store) ⌝ }
 {
-    let n = clamped(count, 8);
+    let n = clamped(store.count, STORED);
     let mut i: usize = 0;
     while i < n {
         if same(name, name_at(packets, heads, i)) {
@@ -69,36 +106,36 @@ fn find(packets: &Packets, heads: &Heads, count: usize, name: &[u8]) -> usize
 
 // The place of the Data that gives way to a new one of a name: the equal name's, else, in a full store, that of the least recent; else the
 // number of Data.
-fn leaving(packets: &Packets, heads: &Heads, count: usize, name: &[u8]) -> usize
-    ensures { λ r. ⌜ r ≡ leaver (now (name .entry)) (view (now (packets .entry)) (now (heads .entry)) count) ⌝ }
-    ensures { λ r. ⌜ r < 8 ⌝ }
+fn leaving(packets: &Packets, heads: &Heads, store: Store, name: &[u8]) -> usize
+    ensures { λ r. ⌜ r ≡ leaver (now (name .entry)) (before packets heads store) ⌝ }
+    ensures { λ r. ⌜ r < mostStored ⌝ }
 {
-    let i = find(packets, heads, count, name);
-    if i < 8 { i } else { 0 }
+    let i = find(packets, heads, store, name);
+    if i < STORED { i } else { 0 }
 }
 
 // A table has all its rows. It is said of a value, since of what stands behind a reference no length is known.
 fn has_all_packets(packets: Packets)
-    ensures { λ _. ⌜ length packets ≡ 8 ⌝ }
+    ensures { λ _. ⌜ length packets ≡ mostStored ⌝ }
 {}
 
 // A table has all its heads.
 fn has_all_heads(heads: Heads)
-    ensures { λ _. ⌜ length heads ≡ 8 ⌝ }
+    ensures { λ _. ⌜ length heads ≡ mostStored ⌝ }
 {}
 
 // A row has all its bytes.
-fn has_all_bytes(row: [u8; 1500])
-    ensures { λ _. ⌜ length row ≡ 1500 ⌝ }
+fn has_all_bytes(row: [u8; PACKET])
+    ensures { λ _. ⌜ length row ≡ mostPacket ⌝ }
 {}
 
 // The Data at a place goes, and those after it move one place down; a place past the last changes nothing. How many there are then.
-fn take_out(packets: &mut Packets, heads: &mut Heads, count: usize, i: usize) -> usize
-    requires { ⌜ i < 8 ⌝ }
-    ensures { λ r. ⌜ view (now (packets .exit)) (now (heads .exit)) r ≡ without i (view (now (packets .entry)) (now (heads .entry)) count) ⌝ }
-    ensures { λ r. ⌜ r < 8 ⌝ }
+fn take_out(packets: &mut Packets, heads: &mut Heads, store: Store, i: usize) -> usize
+    requires { ⌜ i < mostStored ⌝ }
+    ensures { λ r. ⌜ after packets heads (record { count = r }) ≡ without i (before packets heads store) ⌝ }
+    ensures { λ r. ⌜ r < mostStored ⌝ }
 {
-    let n = clamped(count, 8);
+    let n = clamped(store.count, STORED);
     if n <= i {
         return n;
     }
@@ -114,40 +151,44 @@ fn take_out(packets: &mut Packets, heads: &mut Heads, count: usize, i: usize) ->
 }
 
 // Bytes into a row that has room for them.
-fn fill(row: &mut [u8; 1500], bytes: &[u8])
-    requires { ⌜ length (now bytes) ≤ 1500 ⌝ }
+fn fill(row: &mut [u8; PACKET], bytes: &[u8])
+    requires { ⌜ length (now bytes) ≤ mostPacket ⌝ }
     ensures { λ _. ⌜ take (length (now (bytes .entry))) (now (row .exit)) ≡ now (bytes .entry) ⌝ }
 {
     has_all_bytes(*row);
     put_bytes(row, 0, bytes);
 }
 
-// "The store replaces an equal name, else, when full, evicts the least recently stored or hit." Bytes that are no packet's size change nothing.
+// "The store replaces an equal name, else, when full, evicts the least recently stored or hit." Bytes that are no packet's size change
+// nothing.
 pub fn put(
     packets: &mut Packets,
     heads: &mut Heads,
-    count: usize,
+    store: Store,
     bytes: &[u8],
     time: u64,
     freshness: u64,
-) -> Changed
-    ensures { λ r. ⌜ Puts r (view (now (packets .exit)) (now (heads .exit)) (r .count)) (dataOf (now (bytes .entry)) time freshness) (view (now (packets .entry)) (now (heads .entry)) count) ⌝ }
+) -> Kept
+    ensures { λ r. ⌜
+        Puts r (after packets heads (r .store)) (dataOf (now (bytes .entry)) time freshness) (before packets heads store)
+        ⌝ }
 {
-    if 1500 < bytes.len() {
-        return Changed {
+    if PACKET < bytes.len() {
+        let all = clamped(store.count, STORED);
+        return Kept {
             fits: false,
-            count: count,
+            store: Store { count: all },
         };
     }
-    let i = leaving(packets, heads, count, find_name(bytes));
-    let n = take_out(packets, heads, count, i);
+    let i = leaving(packets, heads, store, find_name(bytes));
+    let n = take_out(packets, heads, store, i);
     has_all_packets(*packets);
     has_all_heads(*heads);
     fill(&mut packets[n], bytes);
     heads[n] = [bytes.len() as u64, time, freshness];
-    Changed {
+    Kept {
         fits: true,
-        count: n + 1,
+        store: Store { count: n + 1 },
     }
 }
 
@@ -157,10 +198,10 @@ fn is_in_time(head: &[u64; 3], fresh: bool, time: u64) -> bool
     ensures { λ r. ⌜ r ≡ inTime time fresh (now (head .entry)) ⌝ }
 {
     if fresh {
-        if time < head[1] {
+        if time < head[TIME] {
             true
         } else {
-            time - head[1] < head[2]
+            time - head[TIME] < head[FRESHNESS]
         }
     } else {
         true
@@ -169,7 +210,7 @@ fn is_in_time(head: &[u64; 3], fresh: bool, time: u64) -> bool
 
 // Whether a lookup may take the Data in a row by its name: "an equal name, with CanBePrefix also any name extending it".
 fn is_named(packets: &Packets, heads: &Heads, i: usize, name: &[u8], prefix: bool) -> bool
-    requires { ⌜ i < 8 ⌝ }
+    requires { ⌜ i < mostStored ⌝ }
     ensures { λ r. ⌜ r ≡ answers (now (name .entry)) prefix (storedAt (now (packets .entry)) (now (heads .entry)) i .name) ⌝ }
 {
     if prefix {
@@ -189,7 +230,7 @@ fn is_served(
     fresh: bool,
     time: u64,
 ) -> bool
-    requires { ⌜ i < 8 ⌝ }
+    requires { ⌜ i < mostStored ⌝ }
     ensures { λ r. ⌜ r ≡ serves time (now (name .entry)) prefix fresh (storedAt (now (packets .entry)) (now (heads .entry)) i) ⌝ }
 {
     if is_in_time(&heads[i], fresh, time) {
@@ -212,8 +253,11 @@ fn is_before(order: Order) -> bool
 
 // Of a Data and the best of those after it, the place of the first in canonical order. The number of Data stands for no best.
 fn earlier_of(packets: &Packets, heads: &Heads, n: usize, i: usize, best: usize) -> usize
-    requires { ⌜ (i < n) × (n ≤ 8) ⌝ }
-    ensures { λ r. ⌜ hitAt (now (packets .entry)) (now (heads .entry)) n r ≡ earlier (hit (now (packets .entry)) (now (heads .entry)) i) (hitAt (now (packets .entry)) (now (heads .entry)) n best) ⌝ }
+    requires { ⌜ (i < n) × (n ≤ mostStored) ⌝ }
+    ensures { λ r. ⌜
+        hitAt (now (packets .entry)) (now (heads .entry)) n r
+        ≡ earlier (hit (now (packets .entry)) (now (heads .entry)) i) (hitAt (now (packets .entry)) (now (heads .entry)) n best)
+        ⌝ }
     ensures { λ r. ⌜ r ≤ n ⌝ }
 {
     if n <= best {
@@ -226,19 +270,23 @@ fn earlier_of(packets: &Packets, heads: &Heads, n: usize, i: usize, best: usize)
     }
 }
 
-// The place of the Data that a lookup takes: "of those it takes the first in canonical order". The number of Data where it takes none.
+// The Data that a lookup takes, or none: "of those it takes the first in canonical order".
 pub fn look(
     packets: &Packets,
     heads: &Heads,
-    count: usize,
+    store: Store,
     name: &[u8],
     prefix: bool,
     fresh: bool,
     time: u64,
-) -> usize
-    ensures { λ r. ⌜ r ≡ given (length (view (now (packets .entry)) (now (heads .entry)) count)) (λ h. h .place) (lookup time (now (name .entry)) prefix fresh (view (now (packets .entry)) (now (heads .entry)) count)) ⌝ }
+) -> Handle
+    ensures { λ r. ⌜
+        placed packets heads store r
+        ≡ given (length (before packets heads store)) (λ h. h .place)
+        (lookup time (now (name .entry)) prefix fresh (before packets heads store))
+        ⌝ }
 {
-    let n = clamped(count, 8);
+    let n = clamped(store.count, STORED);
     let mut best = n;
     let mut i = n;
     while 0 < i {
@@ -247,25 +295,29 @@ pub fn look(
             best = earlier_of(packets, heads, n, i, best);
         }
     }
-    best
+    Handle { at: best }
 }
 
-// A hit becomes the most recent; a place past the last Data changes nothing.
-pub fn touch(packets: &mut Packets, heads: &mut Heads, count: usize, i: usize)
-    ensures { λ _. ⌜ view (now (packets .exit)) (now (heads .exit)) count ≡ recent i (view (now (packets .entry)) (now (heads .entry)) count) ⌝ }
+// A hit becomes the most recent; a handle that stands for no Data changes nothing. The store then.
+pub fn touch(packets: &mut Packets, heads: &mut Heads, store: Store, taken: Handle) -> Store
+    ensures { λ r. ⌜ after packets heads r ≡ recent (placed packets heads store taken) (before packets heads store) ⌝ }
+    ensures { λ r. ⌜ r ≡ stateOf (after packets heads r) ⌝ }
 {
-    let n = clamped(count, 8);
+    let n = clamped(store.count, STORED);
+    let i = taken.at;
     if n == 0 {
-        return;
+        return Store { count: n };
     }
     // The last is the most recent already.
     if i < n - 1 {
         let row = packets[i];
         let head = heads[i];
-        let last = take_out(packets, heads, count, i);
+        let last = take_out(packets, heads, store, i);
         has_all_packets(*packets);
         has_all_heads(*heads);
         packets[last] = row;
         heads[last] = head;
+        return Store { count: n };
     }
+    Store { count: n }
 }

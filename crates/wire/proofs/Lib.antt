@@ -1,2 +1,3 @@
 pub mod UniqueRead
 pub mod UniqueWrite
+pub mod UniqueVerdict

@@ -1,9 +1,10 @@
+pub mod Verdict
 pub mod Write
 pub mod Bytes
-pub mod Within
-pub mod Walk
-pub mod Extend
-pub mod Exact
-pub mod Round
 pub mod Change
+pub mod Exact
+pub mod Extend
 pub mod Read
+pub mod Round
+pub mod Walk
+pub mod Within

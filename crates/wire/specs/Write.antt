@@ -1,4 +1,4 @@
--- Writing: the bytes of a number in its shortest form and of an element, and what a writer leaves in the buffer.
+-- Writing: the bytes of a number in its shortest form, and of an element.
 -- Assumes nothing.
 use Prim.Native.Nat.{ℕ, zero, suc, _/_, _%_}
 use mathlib.Core.List.{List, [], _∷_, _++_}

@@ -1,6 +1,8 @@
-// TLV: variable numbers and elements. They are read by a cursor that goes in and comes back by value, and written into a lent
+// TLV: variable numbers, elements, and what the grammar says of bytes. They are read by a cursor that goes in and
+// comes back by value, and written into a lent
 // buffer.
 pub mod read;
+pub mod verdict;
 pub mod write;
 
 pub use read::Cursor;
@@ -10,6 +12,7 @@ pub use read::Read;
 pub use read::Whole;
 pub use read::whole_number;
 pub use read::width_of;
+pub use verdict::Verdict;
 pub use write::Put;
 pub use write::put_bytes;
 pub use write::put_head;

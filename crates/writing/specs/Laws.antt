@@ -1,6 +1,6 @@
 pub mod Written
-pub mod Size
-pub mod Stored
-pub mod NackBack
 pub mod BareBack
 pub mod InterestBack
+pub mod NackBack
+pub mod Size
+pub mod Stored

@@ -1,3 +1,4 @@
 pub mod Written
+pub mod Back
 pub mod Places
 pub mod Laws

@@ -1,13 +1,12 @@
 -- The bytes of the packets that leave.
 -- Assumes nothing.
-use Prim.Native.Nat.{ℕ, _-_, _%_}
-use mathlib.Core.Bool.{Bool, true, false}
+use Prim.Native.Nat.{ℕ}
+use mathlib.Core.Bool.{Bool}
 use mathlib.Core.List.{List, [], _∷_, _++_}
-use lib.ListN.{set}
 use lib.Dec.{eqb}
 use Rattle.laws.specs.Pick.{pick}
+use Rattle.grammar.specs.Types as types
 use Rattle.wire.specs.Write.{bytesOf, encoded, headOf, written}
-use Rattle.packets.specs.declared.bare.Hop.{Hop}
 
 -- an element of length 0 where a flag is set
 unfoldable pub flag : ℕ → Bool → List ℕ
@@ -19,7 +18,7 @@ requestValue name prefix fresh nonce = written 0x07 name ++ (flag 0x21 prefix ++
 
 -- that Interest
 unfoldable pub requestBytes : List ℕ → Bool → Bool → ℕ → List ℕ
-requestBytes name prefix fresh nonce = written 0x05 (requestValue name prefix fresh nonce)
+requestBytes name prefix fresh nonce = written types.interest (requestValue name prefix fresh nonce)
 
 -- "NackReason (left out for reason 0)", in one byte
 unfoldable pub reasonBytes : ℕ → List ℕ
@@ -27,14 +26,9 @@ reasonBytes n = pick (eqb n 0) [] (written 0x0321 (n ∷ []))
 
 -- "LpPacket with Nack, NackReason .., and an Interest": its value
 unfoldable pub nackValue : ℕ → List ℕ → Bool → Bool → ℕ → List ℕ
-nackValue reason name prefix fresh nonce = written 0x0320 (reasonBytes reason) ++ written 0x50 (requestBytes name prefix fresh nonce)
+nackValue reason name p m nonce = written types.nack (reasonBytes reason) ++ written types.fragment (requestBytes name p m nonce)
 
 -- the Nack
 unfoldable pub nackBytes : ℕ → List ℕ → Bool → Bool → ℕ → List ℕ
 unfolding pick bytesOf encoded headOf written flag requestValue requestBytes reasonBytes nackValue
-nackBytes reason name prefix fresh nonce = written 0x64 (nackValue reason name prefix fresh nonce)
-
--- "HopLimit one lower", in its one byte: 0 stays 0
-unfoldable pub lowered : List ℕ → Hop → List ℕ
-lowered l Hop.Absent = l
-lowered l (Hop.Limit h at) = set l at ((h - 1) % 256)
+nackBytes reason name prefix fresh nonce = written types.lpPacket (nackValue reason name prefix fresh nonce)

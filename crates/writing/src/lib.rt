@@ -1,5 +1,6 @@
 // Packets written into a lent buffer: the Nack, the Interest with its HopLimit lowered, and the Data.
 // A function `write_..` looks whether there is room; a function `store_..` is called where there is, and says where what it stored ends.
+use grammar::types;
 use packets::Hop;
 use wire::Put;
 ghost use mathlib.Core.Path.{_≡_};
@@ -10,8 +11,29 @@ ghost use lib.Dec.{ltb};
 ghost use Rattle.laws.specs.Pick.{pick};
 ghost use Rattle.wire.specs.Write.{bytesOf, headOf, written};
 ghost use Rattle.wire.specs.Places.Write.{outcome, wrote};
-ghost use Rattle.writing.specs.Written.{flag, requestValue, requestBytes, reasonBytes, nackValue, nackBytes, lowered};
+ghost use Rattle.writing.specs.Written.{flag, requestValue, requestBytes, reasonBytes, nackValue, nackBytes};
+ghost use Rattle.packets.specs.Places.View.{lowered};
+ghost use Rattle.grammar.specs.Types as types;
 ghost use Rattle.writing.specs.Places.Stored.{Room, Stored};
+
+// The types that are written, as numbers of an element's head.
+const INTEREST: u64 = types::INTEREST as u64;
+
+const NAME: u64 = types::NAME as u64;
+
+const NONCE: u64 = types::NONCE as u64;
+
+const MUST_BE_FRESH: u64 = types::MUST_BE_FRESH as u64;
+
+const CAN_BE_PREFIX: u64 = types::CAN_BE_PREFIX as u64;
+
+const FRAGMENT: u64 = types::FRAGMENT as u64;
+
+const LP_PACKET: u64 = types::LP_PACKET as u64;
+
+const NACK: u64 = types::NACK as u64;
+
+const NACK_REASON: u64 = types::NACK_REASON as u64;
 
 // How many bytes an element takes whose value has `len` bytes.
 fn element_len(typ: u64, len: usize) -> usize
@@ -35,8 +57,8 @@ fn flag_len(typ: u64, on: bool) -> usize
 fn request_len(name: &[u8], prefix: bool, fresh: bool) -> usize
     ensures { λ r. ⌜ ((nonce : ℕ) → length (requestValue (now (name .entry)) prefix fresh nonce) ≡ r) ⌝ }
 {
-    let flags = flag_len(0x21, prefix) + flag_len(0x12, fresh);
-    element_len(0x07, name.len()) + flags + element_len(0x0A, 4)
+    let flags = flag_len(CAN_BE_PREFIX, prefix) + flag_len(MUST_BE_FRESH, fresh);
+    element_len(NAME, name.len()) + flags + element_len(NONCE, 4)
 }
 
 // How many bytes the NackReason takes.
@@ -46,15 +68,15 @@ fn reason_len(reason: u8) -> usize
     if reason == 0 {
         return 0;
     }
-    element_len(0x0321, 1)
+    element_len(NACK_REASON, 1)
 }
 
 // How many bytes the value of the LpPacket takes.
 fn nack_len(reason: u8, name: &[u8], prefix: bool, fresh: bool) -> usize
     ensures { λ r. ⌜ ((nonce : ℕ) → length (nackValue reason (now (name .entry)) prefix fresh nonce) ≡ r) ⌝ }
 {
-    let request = element_len(0x05, request_len(name, prefix, fresh));
-    element_len(0x0320, reason_len(reason)) + element_len(0x50, request)
+    let request = element_len(INTEREST, request_len(name, prefix, fresh));
+    element_len(NACK, reason_len(reason)) + element_len(FRAGMENT, request)
 }
 
 // An element's head.
@@ -110,7 +132,7 @@ fn store_nonce(buf: &mut [u8], at: usize, nonce: u64) -> usize
         (nonce / 256 % 256) as u8,
         (nonce % 256) as u8,
     ];
-    store_element(buf, at, 0x0A, &bytes)
+    store_element(buf, at, NONCE, &bytes)
 }
 
 // The value of the Interest in a Nack: Name, flags and Nonce.
@@ -125,9 +147,9 @@ fn store_request_value(
     requires { ⌜ Room (now buf) at (requestValue (now name) prefix fresh nonce) ⌝ }
     ensures { λ r. ⌜ Stored (now (buf .entry)) at (requestValue (now (name .entry)) prefix fresh nonce) (now (buf .exit)) r ⌝ }
 {
-    let first = store_element(buf, at, 0x07, name);
-    let second = store_flag(buf, first, 0x21, prefix);
-    let third = store_flag(buf, second, 0x12, fresh);
+    let first = store_element(buf, at, NAME, name);
+    let second = store_flag(buf, first, CAN_BE_PREFIX, prefix);
+    let third = store_flag(buf, second, MUST_BE_FRESH, fresh);
     store_nonce(buf, third, nonce)
 }
 
@@ -143,7 +165,7 @@ fn store_request(
     requires { ⌜ Room (now buf) at (requestBytes (now name) prefix fresh nonce) ⌝ }
     ensures { λ r. ⌜ Stored (now (buf .entry)) at (requestBytes (now (name .entry)) prefix fresh nonce) (now (buf .exit)) r ⌝ }
 {
-    let from = store_head(buf, at, 0x05, request_len(name, prefix, fresh));
+    let from = store_head(buf, at, INTEREST, request_len(name, prefix, fresh));
     store_request_value(buf, from, name, prefix, fresh, nonce)
 }
 
@@ -155,15 +177,15 @@ fn store_reason(buf: &mut [u8], at: usize, reason: u8) -> usize
     if reason == 0 {
         return at;
     }
-    store_element(buf, at, 0x0321, &[reason])
+    store_element(buf, at, NACK_REASON, &[reason])
 }
 
 // The element Nack, which holds the NackReason.
 fn store_cause(buf: &mut [u8], at: usize, reason: u8) -> usize
-    requires { ⌜ Room (now buf) at (written 0x0320 (reasonBytes reason)) ⌝ }
-    ensures { λ r. ⌜ Stored (now (buf .entry)) at (written 0x0320 (reasonBytes reason)) (now (buf .exit)) r ⌝ }
+    requires { ⌜ Room (now buf) at (written types.nack (reasonBytes reason)) ⌝ }
+    ensures { λ r. ⌜ Stored (now (buf .entry)) at (written types.nack (reasonBytes reason)) (now (buf .exit)) r ⌝ }
 {
-    let from = store_head(buf, at, 0x0320, reason_len(reason));
+    let from = store_head(buf, at, NACK, reason_len(reason));
     store_reason(buf, from, reason)
 }
 
@@ -176,11 +198,12 @@ fn store_fragment(
     fresh: bool,
     nonce: u64,
 ) -> usize
-    requires { ⌜ Room (now buf) at (written 0x50 (requestBytes (now name) prefix fresh nonce)) ⌝ }
-    ensures { λ r. ⌜ Stored (now (buf .entry)) at (written 0x50 (requestBytes (now (name .entry)) prefix fresh nonce)) (now (buf .exit)) r ⌝ }
+    requires { ⌜ Room (now buf) at (written types.fragment (requestBytes (now name) prefix fresh nonce)) ⌝ }
+    ensures { λ r. ⌜ Stored (now (buf .entry)) at (written types.fragment (requestBytes (now (name .entry)) prefix fresh nonce))
+        (now (buf .exit)) r ⌝ }
 {
-    let len = element_len(0x05, request_len(name, prefix, fresh));
-    let from = store_head(buf, at, 0x50, len);
+    let len = element_len(INTEREST, request_len(name, prefix, fresh));
+    let from = store_head(buf, at, FRAGMENT, len);
     store_request(buf, from, name, prefix, fresh, nonce)
 }
 
@@ -214,7 +237,7 @@ fn store_nack(
     requires { ⌜ Room (now buf) at (nackBytes reason (now name) prefix fresh nonce) ⌝ }
     ensures { λ r. ⌜ Stored (now (buf .entry)) at (nackBytes reason (now (name .entry)) prefix fresh nonce) (now (buf .exit)) r ⌝ }
 {
-    let from = store_head(buf, at, 0x64, nack_len(reason, name, prefix, fresh));
+    let from = store_head(buf, at, LP_PACKET, nack_len(reason, name, prefix, fresh));
     store_nack_value(buf, from, reason, name, prefix, fresh, nonce)
 }
 
@@ -230,7 +253,7 @@ pub fn write_nack(
 ) -> Put
     ensures { λ r. ⌜ outcome r (now (buf .exit)) ≡ wrote (now (buf .entry)) at (nackBytes reason (now (name .entry)) prefix fresh nonce) ⌝ }
 {
-    let len = element_len(0x64, nack_len(reason, name, prefix, fresh));
+    let len = element_len(LP_PACKET, nack_len(reason, name, prefix, fresh));
     if buf.len() < at {
         return Put::Full;
     }

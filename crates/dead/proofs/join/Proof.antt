@@ -1,7 +1,7 @@
 -- One law for a ring with room and one for a full ring. Both need that the table has its 256 rows.
 use borrow.Author.Needs.{needs}
 use native.Mathlib.Omega.{arith}
-use Rattle.dead.specs.Places.View.{view-join-room, view-join-full}
+use Rattle.dead.specs.Places.View.{count-all, view-join-room, view-join-full}
 use Rattle.dead.proofs.join.Statement.{statement}
 use Rattle.dead.proofs.join.Tie as tie
 
@@ -33,13 +33,13 @@ returns : tie.Need-returns
 returns c =
     let h = c .before .before .before .before .before in
     let a = h .before .before .args in
-    view-join-room (a .lines .now) (a .print) (a .time) (h .has-all-rows .ensures) (a .ring) (omega arith)
+    (view-join-room (a .lines .now) (a .print) (a .time) (h .has-all-rows .ensures) (a .ring) (omega arith), count-all _ _ (omega arith))
 
 returns-2 : tie.Need-returns-2
 returns-2 c =
     let h = c .before .before .before in
     let a = h .before .before .args in
-    view-join-full (a .lines .now) (a .print) (a .time) (h .has-all-rows .ensures) (a .ring) (omega arith)
+    (view-join-full (a .lines .now) (a .print) (a .time) (h .has-all-rows .ensures) (a .ring) (omega arith), count-all _ _ (omega arith))
 
 pub join-spec : {M : Type 1} → statement M
 join-spec =

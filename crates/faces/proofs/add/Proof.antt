@@ -3,7 +3,8 @@ use borrow.Author.Needs.{needs}
 use native.Mathlib.Omega.{arith}
 use Prim.Native.Nat.{_-_}
 use Rattle.records.specs.Laws.Face.{face-yes, face-no}
-use Rattle.faces.specs.Set.{withFace, mostFaces}
+use Rattle.sizes.specs.Sizes.{mostFaces}
+use Rattle.faces.specs.Set.{withFace}
 use Rattle.laws.specs.Laws.Digits.{or-added}
 use Rattle.laws.specs.Pick.{pick}
 use Rattle.faces.proofs.add.Statement.{statement}

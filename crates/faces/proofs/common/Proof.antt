@@ -1,7 +1,7 @@
 -- The faces of the machine's `and` are those that are in both sets.
 use borrow.Author.Needs.{needs}
 use mathlib.Core.Path.{_∙_}
-use Rattle.faces.specs.Set.{mostFaces}
+use Rattle.sizes.specs.Sizes.{mostFaces}
 use Rattle.faces.specs.Laws.Set.{where-ext, has-and}
 use Rattle.faces.proofs.common.Statement.{statement}
 use Rattle.faces.proofs.common.Tie as tie

@@ -3,7 +3,8 @@ use borrow.Author.Needs.{needs}
 use native.Mathlib.Omega.{arith}
 use Prim.Native.Nat.{_-_}
 use Rattle.records.specs.Laws.Face.{face-yes, face-no}
-use Rattle.faces.specs.Set.{hasFace, mostFaces}
+use Rattle.sizes.specs.Sizes.{mostFaces}
+use Rattle.faces.specs.Set.{hasFace}
 use Rattle.laws.specs.Digits.{member}
 use Rattle.laws.specs.Laws.Digits.{digit-shift}
 use Rattle.faces.proofs.has.Statement.{statement}
@@ -32,7 +33,8 @@ shr-result c = search needs
 returns-3 : tie.Need-returns-3
 unfolding hasFace member
 returns-3 c =
-    rw (face-yes mostFaces (c .before .before .args .face) .1 (omega arith, omega arith), ← (digit-shift (c .before .before .args .face - 1) _))
+    let f = c .before .before .args .face in
+    rw (face-yes mostFaces f .1 (omega arith, omega arith), ← (digit-shift (f - 1) _))
 
 pub has-spec : {M : Type 1} → statement M
 has-spec =

@@ -1,7 +1,7 @@
 -- The faces of the machine's `xor` of a set and what it shares are those that the other has not.
 use borrow.Author.Needs.{needs}
 use mathlib.Core.Path.{_∙_}
-use Rattle.faces.specs.Set.{mostFaces}
+use Rattle.sizes.specs.Sizes.{mostFaces}
 use Rattle.faces.specs.Laws.Set.{where-ext, has-less}
 use Rattle.faces.proofs.less.Statement.{statement}
 use Rattle.faces.proofs.less.Tie as tie

@@ -2,7 +2,8 @@
 use borrow.Author.Needs.{needs}
 use native.Mathlib.Omega.{arith}
 use Prim.Native.Nat.{_+_, _%_, _^_}
-use Rattle.faces.specs.Set.{lowestOf, mostFaces}
+use Rattle.sizes.specs.Sizes.{mostFaces}
+use Rattle.faces.specs.Set.{lowestFace}
 use lib.Count.{trailing-le}
 use Rattle.faces.proofs.lowest.Statement.{statement}
 use Rattle.faces.proofs.lowest.Tie as tie
@@ -29,7 +30,7 @@ add-result-2 : tie.Need-add-result-2
 add-result-2 c = omega (arith, trailing-le 64 (c .args .set % 2 ^ mostFaces + 2 ^ mostFaces))
 
 returns : tie.Need-returns
-unfolding lowestOf
+unfolding lowestFace
 returns c = search needs
 
 pub lowest-spec : {M : Type 1} → statement M

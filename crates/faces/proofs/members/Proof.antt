@@ -1,7 +1,7 @@
 -- The remainder has the digits of the faces and no others.
 use borrow.Author.Needs.{needs}
 use mathlib.Core.Path.{sym}
-use Rattle.faces.specs.Set.{mostFaces}
+use Rattle.sizes.specs.Sizes.{mostFaces}
 use Rattle.faces.specs.Laws.Set.{where-mod}
 use Rattle.faces.proofs.members.Statement.{statement}
 use Rattle.faces.proofs.members.Tie as tie

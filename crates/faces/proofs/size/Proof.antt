@@ -2,7 +2,8 @@
 use borrow.Author.Needs.{needs}
 use native.Mathlib.Omega.{arith}
 use Prim.Native.Nat.{_^_, _%_}
-use Rattle.faces.specs.Set.{sizeOf, mostFaces}
+use Rattle.sizes.specs.Sizes.{mostFaces}
+use Rattle.faces.specs.Set.{sizeOf}
 use lib.Count.{ones-le}
 use Rattle.faces.proofs.size.Statement.{statement}
 use Rattle.faces.proofs.size.Tie as tie

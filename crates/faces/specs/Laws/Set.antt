@@ -1,22 +1,25 @@
--- What the sets of faces mean: members, a face more or less, the size, the lowest face, and the faces that a test holds of, for any number n of faces.
+-- What the sets of faces mean: members, a face more or less, the size, the lowest face, and the faces that a test holds of, for any
+-- number n of faces.
 -- Assumes nothing.
 use Prim.Native.Nat.{ℕ, zero, suc, _+_, _-_, _%_, _^_, _≤_, _<_}
 use mathlib.Core.Path.{_≡_, refl, sym, _∙_}
-use mathlib.Core.Bool.{Bool, true, false, _&&_, _||_, not}
-use mathlib.Core.Logic.{_≢_, _↔_, ⊎-elim}
+use mathlib.Core.Bool.{Bool, true, false, _&&_, not}
+use mathlib.Core.Logic.{_≢_, ⊎-elim}
 use native.Mathlib.Omega.{arith}
 use native.Mathlib.Nat.{mod-lt, add-zero, eq-or-lt-of-le}
 use lib.Pow.{pow-pos}
 use lib.Count.{trailingZeros}
-use lib.Bits.{bitAnd, bitOr, bitXor}
+use lib.Bits.{bitAnd, bitXor}
 use Rattle.laws.specs.Pick.{pick}
 use Rattle.laws.specs.Laws.Pick.{pick-yes, pick-ind}
 use Rattle.laws.specs.Laws.Loop.{and-both}
 use Rattle.laws.specs.Digits.{digit, member, added, removed}
-use Rattle.laws.specs.Laws.Digits.{digit-mod, digit-high, digits-ext, add-same, add-other, member-and, member-or, member-less, lowest-below, member-yes, member-no, digit-member, removed-present, removed-absent, member-add-same, member-add-other, member-remove-same, member-remove-other}
+use Rattle.laws.specs.Laws.Digits.{digit-mod, digit-high, digits-ext, add-same, add-other, member-and, member-less, lowest-below}
+use Rattle.laws.specs.Laws.Digits.{member-yes, member-no, digit-member, removed-present, removed-absent, member-add-same}
+use Rattle.laws.specs.Laws.Digits.{member-add-other, member-remove-same, member-remove-other}
 use Rattle.records.specs.Face.{isFace}
 use Rattle.records.specs.Laws.Face.{face-yes}
-use Rattle.faces.specs.Set.{hasFace, withFace, withoutFace, lowestOf, facesWhere}
+use Rattle.faces.specs.Set.{hasFace, withFace, minusFace, lowestFace, facesWhere}
 
 -- what is in a set is a face
 pub has-face : (n s f : ℕ) → hasFace n s f ≡ true → (1 ≤ f) × (f ≤ n)
@@ -29,14 +32,14 @@ unfolding hasFace
 has-member n s f e = and-both (isFace n f) _ e .1
 
 -- to remove a face that is in the set subtracts its power of 2
-pub without-present : (n s f : ℕ) → hasFace n s f ≡ true → withoutFace n s f ≡ s - 2 ^ (f - 1)
-unfolding withoutFace
+pub without-present : (n s f : ℕ) → hasFace n s f ≡ true → minusFace n s f ≡ s - 2 ^ (f - 1)
+unfolding minusFace
 without-present n s f e =
     pick-yes _ _ _ (face-yes n f .1 (has-face n s f e)) ∙ removed-present (f - 1) s (has-member n s f e)
 
 -- to remove what is not in the set changes nothing
-pub without-absent : (n s f : ℕ) → hasFace n s f ≡ false → withoutFace n s f ≡ s
-unfolding hasFace withoutFace pick
+pub without-absent : (n s f : ℕ) → hasFace n s f ≡ false → minusFace n s f ≡ s
+unfolding hasFace minusFace pick
 without-absent n s f = go (isFace n f)
   where
     go : (b : Bool) → b && member (f - 1) s ≡ false → pick b (removed (f - 1) s) s ≡ s
@@ -59,13 +62,6 @@ has-after n s i h =
     let e : i + 1 - 1 ≡ i = omega arith in
     rw (face-yes n (i + 1) .1 (omega arith, omega arith), e)
 
--- a set has no face exactly where its digits below n are 0
-none-digit : (n s : ℕ) → ((f : ℕ) → hasFace n s f ≡ false) ↔ ((i : ℕ) → i < n → digit i s ≡ 0)
-none-digit n s = (
-  (λ e i h. member-no i s .0 (sym (has-after n s i h) ∙ e (i + 1))),
-  (λ e f. has-no n s f (λ q. member-no (f - 1) s .1 (e (f - 1) (omega (arith, face-yes n f .0 q))))),
-)
-
 module _ (n s f : ℕ) where
   -- a face that is added is in the set
   pub has-added-same : hasFace n (withFace n s f) f ≡ isFace n f
@@ -77,8 +73,8 @@ module _ (n s f : ℕ) where
       go false = refl
 
   -- a face that is removed is not in the set
-  pub has-removed-same : hasFace n (withoutFace n s f) f ≡ false
-  unfolding hasFace withoutFace pick
+  pub has-removed-same : hasFace n (minusFace n s f) f ≡ false
+  unfolding hasFace minusFace pick
   has-removed-same = go (isFace n f)
     where
       go : (b : Bool) → b && member (f - 1) (pick b (removed (f - 1) s) s) ≡ false
@@ -103,41 +99,41 @@ module _ (n s f : ℕ) where
   has-added-other g d = change-other (added (f - 1) s) g (member-add-other (f - 1) s) d
 
   -- to remove a face changes nothing for another
-  pub has-removed-other : (g : ℕ) → g ≢ f → hasFace n (withoutFace n s f) g ≡ hasFace n s g
-  unfolding withoutFace
+  pub has-removed-other : (g : ℕ) → g ≢ f → hasFace n (minusFace n s f) g ≡ hasFace n s g
+  unfolding minusFace
   has-removed-other g d = change-other (removed (f - 1) s) g (member-remove-other (f - 1) s) d
 
 -- a face that is put in has its digit set, one that is taken out has not
-pub put-same : (n f s : ℕ) (b : Bool) → isFace n f ≡ true → member (f - 1) (pick b (withFace n s f) (withoutFace n s f)) ≡ b
-unfolding pick withFace withoutFace
+pub put-same : (n f s : ℕ) (b : Bool) → isFace n f ≡ true → member (f - 1) (pick b (withFace n s f) (minusFace n s f)) ≡ b
+unfolding pick withFace minusFace
 put-same n f s true h = rw h (member-add-same (f - 1) s)
 put-same n f s false h = rw h (member-remove-same (f - 1) s)
 
 -- the digits of the other faces are as they were
 pub put-other : (n f s : ℕ) (b : Bool) → isFace n f ≡ true → (i : ℕ) → i ≢ f - 1
-    → member i (pick b (withFace n s f) (withoutFace n s f)) ≡ member i s
-unfolding pick withFace withoutFace
+    → member i (pick b (withFace n s f) (minusFace n s f)) ≡ member i s
+unfolding pick withFace minusFace
 put-other n f s true h i d = rw h (member-add-other (f - 1) s i d)
 put-other n f s false h i d = rw h (member-remove-other (f - 1) s i d)
 
 -- a number that is no face changes nothing
-pub put-none : (n f s : ℕ) (b : Bool) → isFace n f ≡ false → pick b (withFace n s f) (withoutFace n s f) ≡ s
-unfolding pick withFace withoutFace
+pub put-none : (n f s : ℕ) (b : Bool) → isFace n f ≡ false → pick b (withFace n s f) (minusFace n s f) ≡ s
+unfolding pick withFace minusFace
 put-none n f s true h = rw h
 put-none n f s false h = rw h
 
 module _ (n s : ℕ) where
   module _ (w : n ≤ 64) where
     -- the lowest face is in the set, if the set has one
-    pub lowest-has : lowestOf n s ≤ n → hasFace n s (lowestOf n s) ≡ true
-    unfolding lowestOf
+    pub lowest-has : lowestFace n s ≤ n → hasFace n s (lowestFace n s) ≡ true
+    unfolding lowestFace
     lowest-has h =
         let t = trailingZeros 64 (s % 2 ^ n + 2 ^ n) in
         has-after n s t (omega arith) ∙ member-yes t s .1 (lowest-below 64 n s w .here (omega arith))
 
     -- no face below the lowest is in the set
-    pub lowest-before : (f : ℕ) → f < lowestOf n s → hasFace n s f ≡ false
-    unfolding lowestOf
+    pub lowest-before : (f : ℕ) → f < lowestFace n s → hasFace n s f ≡ false
+    unfolding lowestFace
     lowest-before f h =
         has-no n s f
         (λ q. member-no (f - 1) s .1 (lowest-below 64 n s w .below (f - 1) (omega (arith, face-yes n f .0 q))))
@@ -163,7 +159,8 @@ where-member (suc n) i p h =
     pick-ind (λ (x : ℕ). member i (s + x) ≡ p (suc i)) (p (suc n)) (2 ^ n) 0
     (λ e. ⊎-elim (λ (q : i ≡ n). rw (q, e) (member-yes n (s + 2 ^ n) .1 (add-same n s free)))
     (λ (l : i < n). rw (add-other n i s (λ q. omega arith) free) (where-member n i p l)) (eq-or-lt-of-le (omega arith)))
-    (λ e. rw add-zero (⊎-elim (λ (q : i ≡ n). rw (q, e) (member-no n s .1 free)) (λ (l : i < n). where-member n i p l) (eq-or-lt-of-le (omega arith))))
+    (λ e. rw add-zero (⊎-elim (λ (q : i ≡ n). rw (q, e) (member-no n s .1 free)) (λ (l : i < n). where-member n i p l)
+    (eq-or-lt-of-le (omega arith))))
 
 module _ (n : ℕ) where
   -- of the faces those are in the set that p holds of
@@ -204,15 +201,6 @@ module _ (n a b f : ℕ) where
     where
       go : (c : Bool) → c && member (f - 1) (bitAnd a b) ≡ (c && member (f - 1) a) && (c && member (f - 1) b)
       go true = member-and (f - 1) a b
-      go false = refl
-
-  -- a face is in the machine's `or` of two sets exactly where it is in either
-  pub has-or : hasFace n (bitOr a b) f ≡ (hasFace n a f || hasFace n b f)
-  unfolding hasFace
-  has-or = go (isFace n f)
-    where
-      go : (c : Bool) → c && member (f - 1) (bitOr a b) ≡ (c && member (f - 1) a || c && member (f - 1) b)
-      go true = member-or (f - 1) a b
       go false = refl
 
   -- a face is in the machine's `xor` of a set and what it shares exactly where it is in the set and not in the other

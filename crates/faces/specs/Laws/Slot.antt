@@ -10,24 +10,26 @@ use native.Mathlib.Nat.{zero-add, add-zero}
 use native.Mathlib.Omega.{arith}
 use lib.Dec.{eqb}
 use borrow.Author.Tests.{ne-eqb}
-use lib.ListN.{length, getD, replicate}
+use lib.ListN.{length, replicate}
 use lib.Pow.{pow-pos}
 use Rattle.laws.specs.Lists.{anyOf}
 use Rattle.laws.specs.Pick.{pick}
-use Rattle.laws.specs.Laws.Pick.{pick-eq, pick-yes, pick-no}
+use Rattle.laws.specs.Laws.Pick.{pick-eq, pick-no}
 use Rattle.laws.specs.Digits.{member}
 use Rattle.laws.specs.Laws.Digits.{member-yes, digit-pow-le, digit-member, tally-ext, tally-tab, size-below}
 use Rattle.laws.specs.Places.Tab.{tab}
 use Rattle.laws.specs.Laws.Tab.{length-tab, getD-tab, tab-ext, tab-set, tab-replicate, map-tab}
 use Rattle.records.specs.Slots.{noSlots, slot, setSlot, isSome, holds, held, heldFrom, isEmpty}
 use Rattle.records.specs.Face.{isFace}
-use Rattle.records.specs.Laws.Face.{face-yes}
-use Rattle.faces.specs.Set.{hasFace, withFace, withoutFace, sizeOf, lowestOf, facesWhere}
-use Rattle.faces.specs.Laws.Set.{has-face, has-member, has-after, without-present, where-ext, where-mod, put-same, put-other, lowest-has, lowest-before}
-use Rattle.faces.specs.Slots.{slotsOf, slotFor}
+use Rattle.records.specs.Laws.Face.{face-yes, face-no}
+use Rattle.records.specs.Laws.Slot.{slot-at, set-slot-at, slot-none, set-slot-none}
+use Rattle.faces.specs.Set.{hasFace, withFace, minusFace, sizeOf, lowestFace, facesWhere}
+use Rattle.faces.specs.Laws.Set.{has-face, has-member, has-after, without-present, where-ext, where-mod, put-same, put-other}
+use Rattle.faces.specs.Laws.Set.{put-none, lowest-has, lowest-before}
+use Rattle.faces.specs.Slots.{slotsOf}
 
 -- to remove a face that is in the set makes the number smaller
-pub without-less : (n s f : ℕ) → hasFace n s f ≡ true → withoutFace n s f < s
+pub without-less : (n s f : ℕ) → hasFace n s f ≡ true → minusFace n s f < s
 without-less n s f e =
     let there = digit-pow-le (f - 1) s (member-yes (f - 1) s .0 (has-member n s f e)) in
     omega (arith, without-present n s f e, pow-pos (f - 1), there)
@@ -46,7 +48,7 @@ module _ {A : Type 0} where
   some-there false x = refl
 
 -- each turn of a walk from the lowest face up leaves a smaller number
-pub lowest-less : (n s f : ℕ) → n ≤ 64 → f ≡ lowestOf n s → f ≤ n → withoutFace n s f < s
+pub lowest-less : (n s f : ℕ) → n ≤ 64 → f ≡ lowestFace n s → f ≤ n → minusFace n s f < s
 lowest-less n s f w e h = without-less n s f (rw e (lowest-has n s w (omega arith)))
 
 module _ {A : Type 0} (n s : ℕ) (g : ℕ → A) where
@@ -56,19 +58,29 @@ module _ {A : Type 0} (n s : ℕ) (g : ℕ → A) where
   slots-length = length-tab _ 0 n
 
   -- the slot of a face has what g has for its digit, if the face is in the set
-  pub slots-slot : (f : ℕ) → slotFor n f (slotsOf n s g) ≡ pick (hasFace n s f) (some (g (f - 1))) none
-  unfolding slotFor slotsOf slot hasFace pick
-  slots-slot f = go (isFace n f) (face-yes n f .0)
+  pub slots-slot : (f : ℕ) → slot f (slotsOf n s g) ≡ pick (hasFace n s f) (some (g (f - 1))) none
+  unfolding slotsOf hasFace
+  slots-slot f = go (isFace n f) refl
     where
-      go : (b : Bool) → (b ≡ true → (1 ≤ f) × (f ≤ n))
-          → pick b (getD (tab (λ i. pick (member i s) (some (g i)) none) 0 n) (f - 1) none) none ≡ pick (b && member (f - 1) s) (some (g (f - 1))) none
-      go true h = getD-tab (λ i. pick (member i s) (some (g i)) none) 0 n (f - 1) none (omega (arith, h refl)) ∙ rw zero-add
-      go false h = refl
+      go : (b : Bool) → isFace n f ≡ b → slot f (slotsOf n s g) ≡ pick (isFace n f && member (f - 1) s) (some (g (f - 1))) none
+      go true e =
+          let h = face-yes n f .0 e in
+          slot-at f (slotsOf n s g) (h .0)
+          ∙ getD-tab (λ i. pick (member i s) (some (g i)) none) 0 n (f - 1) none (omega (arith, h .0, h .1))
+          ∙ rw (zero-add, e)
+      go false e = slot-none f (slotsOf n s g) (λ h. face-no n f .0 e (h .0, rw slots-length at (h .1))) ∙ rw (e, pick-no)
+
+  -- a number that is no face sets no slot
+  pub slots-past : (f : ℕ) (x : Option A) → isFace n f ≡ false → setSlot f x (slotsOf n s g) ≡ slotsOf n s g
+  slots-past f x e = set-slot-none f x (slotsOf n s g) (λ h. face-no n f .0 e (h .0, rw slots-length at (h .1)))
+
+  -- something is kept for a face exactly where it is in the set
+  pub slots-has : (f : ℕ) → isSome (slot f (slotsOf n s g)) ≡ hasFace n s f
+  slots-has f = rw (slots-slot f) (some-there _ _)
 
   -- something is kept for a face exactly where it is in the set
   pub slots-some : (f : ℕ) → isFace n f ≡ true → isSome (slot f (slotsOf n s g)) ≡ hasFace n s f
-  unfolding slotFor
-  slots-some f h = rw (sym (pick-yes (isFace n f) _ none h) ∙ slots-slot f) (some-there _ _)
+  slots-some f h = rw (slots-slot f) (some-there _ _)
 
   -- the faces that something is kept for are those of the set
   pub slots-set : facesWhere n (λ f. isSome (slot f (slotsOf n s g))) ≡ s % 2 ^ n
@@ -85,17 +97,28 @@ module _ {A : Type 0} (n s : ℕ) (g : ℕ → A) where
   -- a face put in, with what is kept for it, has its slot set
   pub slots-put : (f : ℕ) (a : A) (h : ℕ → A) → isFace n f ≡ true → h (f - 1) ≡ a → ((i : ℕ) → i ≢ f - 1 → h i ≡ g i)
       → slotsOf n (withFace n s f) h ≡ setSlot f (some a) (slotsOf n s g)
-  unfolding slotsOf setSlot pick
+  unfolding slotsOf pick
   slots-put f a h q e o =
       tab-set _ _ (some a) 0 n (f - 1) (rw (zero-add, put-same n f s true q, e))
       (λ i _ _ d. let c : i ≢ f - 1 = (λ z. d (omega arith)) in rw (put-other n f s true q i c, o i c))
+      ∙ sym (set-slot-at f (some a) (slotsOf n s g) (face-yes n f .0 q .0))
 
   -- a face taken out has no slot
-  pub slots-take : (f : ℕ) → isFace n f ≡ true → slotsOf n (withoutFace n s f) g ≡ setSlot f none (slotsOf n s g)
-  unfolding slotsOf setSlot pick
+  pub slots-take : (f : ℕ) → isFace n f ≡ true → slotsOf n (minusFace n s f) g ≡ setSlot f none (slotsOf n s g)
+  unfolding slotsOf pick
   slots-take f q =
       tab-set _ _ none 0 n (f - 1) (rw (zero-add, put-same n f s false q))
       (λ i _ _ d. rw (put-other n f s false q i (λ z. d (omega arith))))
+      ∙ sym (set-slot-at f none (slotsOf n s g) (face-yes n f .0 q .0))
+
+  -- the same for any number: one that is no face takes nothing out
+  pub slots-minus : (f : ℕ) → slotsOf n (minusFace n s f) g ≡ setSlot f none (slotsOf n s g)
+  unfolding pick
+  slots-minus f = go (isFace n f) refl
+    where
+      go : (b : Bool) → isFace n f ≡ b → slotsOf n (minusFace n s f) g ≡ setSlot f none (slotsOf n s g)
+      go true e = slots-take f e
+      go false e = rw (put-none n f s false e) (sym (slots-past f none e))
 
   -- an empty set has no slots
   pub slots-none : ((i : ℕ) → i < n → member i s ≡ false) → slotsOf n s g ≡ noSlots n
@@ -189,24 +212,27 @@ module _ {A : Type 0} (n s : ℕ) (g : ℕ → A) where
 
   module _ (w : n ≤ 64) where
     -- no digit below that of the lowest face is a member
-    digit-before : (i : ℕ) → i < n → i + 1 < lowestOf n s → member i s ≡ false
+    digit-before : (i : ℕ) → i < n → i + 1 < lowestFace n s → member i s ≡ false
     digit-before i l h = sym (has-after n s i l) ∙ lowest-before n s w (i + 1) h
 
     -- what is held starts with the lowest face, and goes on with what is held without it
-    pub held-more : lowestOf n s ≤ n
-        → held (slotsOf n s g) ≡ record { face = lowestOf n s; what = g (lowestOf n s - 1) } ∷ held (slotsOf n (withoutFace n s (lowestOf n s)) g)
+    pub held-more : lowestFace n s ≤ n
+        → held (slotsOf n s g)
+        ≡ record { face = lowestFace n s; what = g (lowestFace n s - 1) } ∷ held (slotsOf n (minusFace n s (lowestFace n s)) g)
     unfolding held slotsOf pick
     held-more h =
-        let f = lowestOf n s in
+        let f = lowestFace n s in
         let there = lowest-has n s w h in
         let within : (1 ≤ f) × (f ≤ n) = has-face n s f there in
         let q : isFace n f ≡ true = face-yes n f .1 within in
         let e : 1 + (f - 1) ≡ f = omega arith in
-        rw e at (held-first (λ i. pick (member i s) (some (g i)) none) (λ i. pick (member i (withoutFace n s f)) (some (g i)) none) (g (f - 1)) 1 0 (f - 1) n (omega arith)
-        (λ k _ l. rw (digit-before k (omega arith) (omega arith))) (rw (zero-add, has-member n s f there)) (rw (zero-add, put-same n f s false q))
+        rw e at (held-first (λ i. pick (member i s) (some (g i)) none) (λ i. pick (member i (minusFace n s f)) (some (g i)) none)
+        (g (f - 1)) 1 0 (f - 1) n (omega arith)
+        (λ k _ l. rw (digit-before k (omega arith) (omega arith))) (rw (zero-add, has-member n s f there))
+        (rw (zero-add, put-same n f s false q))
         (λ k d. rw (put-other n f s false q k (λ z. d (omega arith)))))
 
     -- where no face is left nothing is held
-    pub held-end : n < lowestOf n s → held (slotsOf n s g) ≡ []
+    pub held-end : n < lowestFace n s → held (slotsOf n s g) ≡ []
     unfolding held noSlots
     held-end h = rw (slots-none n s g (λ i l. digit-before i l (omega arith))) (held-none 1 n)

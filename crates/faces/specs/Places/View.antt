@@ -1,78 +1,73 @@
--- The open faces as a node has them: a slot for each of n faces. No other file can open `view`, so its laws stand here.
+-- The open faces as a node has them: a slot for each of n faces. No other file can open `viewFor`, so its laws stand here.
 -- Assumes nothing.
-use Prim.Native.Nat.{ℕ, _-_, _≤_, _<_}
-use mathlib.Core.Path.{_≡_, sym, _∙_}
-use mathlib.Core.Bool.{Bool, true, false}
+use Prim.Native.Nat.{ℕ, _-_, _<_}
+use mathlib.Core.Path.{_≡_, refl, sym, _∙_}
+use mathlib.Core.Bool.{true, false}
 use mathlib.Core.List.{List}
 use mathlib.Core.Logic.{_≢_}
 use mathlib.Core.Option.{Option, none, some}
-use native.Mathlib.Nat.{zero-add}
-use native.Mathlib.Omega.{arith}
 use lib.ListN.{length}
+use Rattle.sizes.specs.Sizes.{mostFaces}
 use Rattle.laws.specs.Pick.{pick}
-use Rattle.laws.specs.Laws.Pick.{pick-yes, pick-no}
 use Rattle.laws.specs.Digits.{member}
-use Rattle.laws.specs.Places.Tab.{tab}
-use Rattle.laws.specs.Laws.Tab.{length-tab, getD-tab, tab-ext, tab-set, tab-replicate}
 use Rattle.records.specs.Slots.{noSlots, slot, setSlot}
 use Rattle.records.specs.Face as node
-use Rattle.records.specs.Face.{Face, pointToPoint, multiAccess, adHoc}
-use Rattle.records.specs.Laws.Face.{face-yes}
-use Rattle.faces.specs.declared.Link.{Link}
+use Rattle.records.specs.Face.{Face, pointToPoint, multiAccess, adHoc, isFace}
+use Rattle.records.specs.Laws.Face.{face-no}
+use Rattle.records.specs.Laws.Slot.{set-slot-none}
 use Rattle.faces.specs.declared.Faces.{Faces}
-use Rattle.faces.specs.Operations.{linkOf, opened, shut, closed}
+use Rattle.faces.specs.Set.{hasFace, withFace, minusFace}
+use Rattle.faces.specs.Slots.{slotsOf}
+use Rattle.faces.specs.Laws.Slot.{slots-length, slots-slot, slots-same, slots-put, slots-minus, slots-none}
 
--- the link type that a face's digits say
+-- the link type that a face's digits say: one that is both is point-to-point
 unfoldable pub linkAt : Faces → ℕ → node.Link
 linkAt fs i = pick (member i (fs .peer)) pointToPoint (pick (member i (fs .adhoc)) adHoc multiAccess)
 
--- the slot of the face with digit i
-unfoldable pub slotAt : Faces → ℕ → Option Face
-slotAt fs i = pick (member i (fs .open)) (some (record { isLocal = member i (fs .local); link = linkAt fs i })) none
+-- the face with digit i, where it is open
+unfoldable pub faceAt : Faces → ℕ → Face
+faceAt fs i = record { isLocal = member i (fs .local); link = linkAt fs i }
+
+-- the faces of a node that has n
+pub viewFor : ℕ → Faces → List (Option Face)
+viewFor n fs = slotsOf n (fs .open) (faceAt fs)
 
 -- the faces of a node
-pub view : ℕ → Faces → List (Option Face)
-view n fs = tab (slotAt fs) 0 n
+abbrev pub view : Faces → List (Option Face)
+view fs = viewFor mostFaces fs
 
 -- there is a slot for each face
-pub view-length : (n : ℕ) (fs : Faces) → length (view n fs) ≡ n
-unfolding view
-view-length n fs = length-tab (slotAt fs) 0 n
+pub view-length : (n : ℕ) (fs : Faces) → length (viewFor n fs) ≡ n
+unfolding viewFor
+view-length n fs = slots-length n (fs .open) (faceAt fs)
 
--- the slot of a face is what its digits say
-pub view-slot : (n f : ℕ) (fs : Faces) → 1 ≤ f → f ≤ n → slot f (view n fs) ≡ slotAt fs (f - 1)
-unfolding view slot
-view-slot n f fs a b = getD-tab (slotAt fs) 0 n (f - 1) none (omega arith) ∙ rw zero-add
+-- the slot of a face is what its digits say; a number that is no face has none
+pub view-slot : (n f : ℕ) (fs : Faces) → slot f (viewFor n fs) ≡ pick (hasFace n (fs .open) f) (some (faceAt fs (f - 1))) none
+unfolding viewFor
+view-slot n f fs = slots-slot n (fs .open) (faceAt fs) f
 
--- digits that say the same of each face are the same faces
-pub view-same : (n : ℕ) (fs gs : Faces) → ((i : ℕ) → i < n → slotAt gs i ≡ slotAt fs i) → view n gs ≡ view n fs
-unfolding view
-view-same n fs gs e = tab-ext (slotAt gs) (slotAt fs) 0 n (λ i _ h. e i (omega arith))
+-- where the digits of face f say open, as x, and those of the others are as they were, f is opened
+pub view-opened : (n f : ℕ) (x : Face) (fs gs : Faces) → isFace n f ≡ true → gs .open ≡ withFace n (fs .open) f → faceAt gs (f - 1) ≡ x
+    → ((i : ℕ) → i ≢ f - 1 → faceAt gs i ≡ faceAt fs i) → viewFor n gs ≡ setSlot f (some x) (viewFor n fs)
+unfolding viewFor faceAt linkAt
+view-opened n f x fs gs q e y o = rw e (slots-put n (fs .open) (faceAt fs) f x (faceAt gs) q y o)
 
--- where the digits of face f alone change, its slot alone changes
-view-set : (n f : ℕ) (x : Option Face) (fs gs : Faces) → slotAt gs (f - 1) ≡ x
-    → ((i : ℕ) → i < n → i ≢ f - 1 → slotAt gs i ≡ slotAt fs i) → view n gs ≡ setSlot f x (view n fs)
-unfolding view setSlot
-view-set n f x fs gs e o =
-    tab-set (slotAt fs) (slotAt gs) x 0 n (f - 1) (rw zero-add e) (λ i _ h d. o i (omega arith) (λ q. d (omega arith)))
+-- where the digits of face f say not open, and those of the others are as they were, f is closed; a number that is no face closes none
+pub view-closed : (n f : ℕ) (fs gs : Faces) → gs .open ≡ minusFace n (fs .open) f → ((i : ℕ) → faceAt gs i ≡ faceAt fs i)
+    → viewFor n gs ≡ setSlot f none (viewFor n fs)
+unfolding viewFor
+view-closed n f fs gs e o =
+    slots-same n (gs .open) (faceAt fs) (gs .open) (faceAt gs) (λ i _. refl) (λ i _ _. o i) ∙ rw e (slots-minus n (fs .open) (faceAt fs) f)
 
--- where the digits of face f say open, with scope l and link type k, and those of the others are as they were, f is opened
-pub view-opened : (n f : ℕ) (l : Bool) (k : Link) (fs gs : Faces) → 1 ≤ f → f ≤ n → member (f - 1) (gs .open) ≡ true
-    → member (f - 1) (gs .local) ≡ l → linkAt gs (f - 1) ≡ linkOf k
-    → ((i : ℕ) → i < n → i ≢ f - 1 → slotAt gs i ≡ slotAt fs i) → view n gs ≡ opened n f l k (view n fs)
-unfolding opened slotAt
-view-opened n f l k fs gs a b x y z o =
-    let here : slotAt gs (f - 1) ≡ some (record { isLocal = l; link = linkOf k }) = pick-yes _ _ _ x ∙ rw (y, z) in
-    view-set n f _ fs gs here o ∙ sym (pick-yes _ _ _ (face-yes n f .1 (a, b)))
-
--- where the digits of face f say not open, and those of the others are as they were, f is closed
-pub view-shut : (n f : ℕ) (fs gs : Faces) → 1 ≤ f → f ≤ n → member (f - 1) (gs .open) ≡ false
-    → ((i : ℕ) → i < n → i ≢ f - 1 → slotAt gs i ≡ slotAt fs i) → view n gs ≡ shut n f (view n fs)
-unfolding shut slotAt
-view-shut n f fs gs a b x o =
-    view-set n f none fs gs (pick-no _ _ _ x) o ∙ sym (pick-yes _ _ _ (face-yes n f .1 (a, b)))
+-- a number that is no face opens none: digits that say the same are the same faces
+pub view-other : (n f : ℕ) (x : Option Face) (fs gs : Faces) → isFace n f ≡ false → gs .open ≡ fs .open
+    → ((i : ℕ) → faceAt gs i ≡ faceAt fs i) → viewFor n gs ≡ setSlot f x (viewFor n fs)
+unfolding viewFor
+view-other n f x fs gs q e o =
+    slots-same n (gs .open) (faceAt fs) (gs .open) (faceAt gs) (λ i _. refl) (λ i _ _. o i)
+    ∙ rw e (sym (set-slot-none f x (viewFor n fs) (λ h. face-no n f .0 q (h .0, rw (view-length n fs) at (h .1)))))
 
 -- where no digit says open, no face is open
-pub view-none : (n : ℕ) (fs : Faces) → ((i : ℕ) → i < n → member i (fs .open) ≡ false) → view n fs ≡ closed n
-unfolding view closed noSlots slotAt
-view-none n fs h = tab-replicate (slotAt fs) none 0 n (λ i _ l. pick-no _ _ _ (h i (omega arith)))
+pub view-none : (n : ℕ) (fs : Faces) → ((i : ℕ) → i < n → member i (fs .open) ≡ false) → viewFor n fs ≡ noSlots n
+unfolding viewFor
+view-none n fs h = slots-none n (fs .open) (faceAt fs) h

@@ -7,7 +7,7 @@ use mathlib.Core.List.{List, [], _∷_, map}
 use lib.ListN.{length, getD, set, replicate, List·getD-map}
 use native.Mathlib.Omega.{arith}
 use Rattle.laws.specs.Laws.Pick.{pick-ap}
-use Rattle.wire.specs.Laws.Bytes.{Bytes}
+use Rattle.wire.specs.Bytes.{Bytes}
 use Rattle.wire.specs.Element.{elem, element, Split, elements, ended}
 use Rattle.wire.specs.Laws.Within.{element-less}
 use Rattle.wire.specs.Laws.Walk.{ended-same, kept}

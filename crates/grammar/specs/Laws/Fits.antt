@@ -1,4 +1,4 @@
--- A row that is found is that of its parent and its type; a verdict puts an element nowhere, or in the order of its row, after the last one
+-- A row that is found is that of its parent and its type; an element is put nowhere, or in the order of its row, after the last one
 -- and with a length that fits; so a field of a walk has a length that fits the rule of its order.
 -- Assumes nothing.
 use Prim.Native.Nat.{ℕ, zero, suc, _≤_, _<_}
@@ -14,10 +14,12 @@ use Rattle.laws.specs.Pick.{pick}
 use Rattle.laws.specs.Laws.Pick.{pick-ind}
 use Rattle.laws.specs.Laws.Loop.{and-both}
 use Rattle.grammar.specs.declared.Row.{Row}
-use Rattle.grammar.specs.declared.Verdict.{Verdict}
+use Rattle.wire.specs.declared.verdict.Verdict.{Verdict}
+use Rattle.wire.specs.Verdict.{isMalformed}
+use Rattle.grammar.specs.declared.Next.{Next}
 use Rattle.grammar.specs.Table.{table, none, hit, rowOf, fits, other}
 use Rattle.grammar.specs.Laws.Table.{eachRow, row-each}
-use Rattle.grammar.specs.Walk.{verdict, markedBy, known, unknown, judged, Field, absent, here, Fields, noFields, brokenFields, met, walked}
+use Rattle.grammar.specs.Walk.{next, saidWith, known, judged, Field, absent, here, Fields, noFields, brokenFields, met, walked}
 use Rattle.grammar.specs.Laws.Walk.{walked-from, walked-ind}
 
 -- a row that is found is that of the type and the parent
@@ -29,20 +31,19 @@ row-found p t (r ∷ l) =
     (λ e _. let b = and-both (eqb (r .parent) p) (eqb (r .typ) t) e in (eqb-true (r .parent) p (b .0), eqb-true (r .typ) t (b .1)))
     (λ _. row-found p t l)
 
--- what holds of each verdict that puts an element nowhere, and of one that puts it in the order of its row, after the last one and with
--- a length that fits, holds of a verdict
-pub judged-met : (P : Verdict → Type 0) (p said last t n : ℕ) → ((m : ℕ) → P (verdict m last 0))
+-- what holds where an element is put nowhere, and where it is put in the order of its row, after the last one and with a length that
+-- fits, holds after any element
+pub judged-met : (P : Next → Type 0) (p : ℕ) (said : Verdict) (last t n : ℕ) → ((m : Verdict) → P (next m last 0))
     → (last < rowOf p t table .order → fits (rowOf p t table .rule) n ≡ true
-    → P (verdict (markedBy (rowOf p t table .mark) said) (rowOf p t table .order) (rowOf p t table .order)))
+    → P (next (saidWith said (rowOf p t table .says)) (rowOf p t table .order) (rowOf p t table .order)))
     → P (judged p said last t n)
-unfolding judged known unknown
+unfolding judged known
 judged-met P p said last t n nowhere later =
     let r : Row = rowOf p t table in
-    pick-ind P (eqb said 5) _ _ (λ _. nowhere 5)
-    (λ _. pick-ind P (eqb (r .order) 0) _ _
-    (λ _. pick-ind P (eqb (other p t last) 0) _ _ (λ _. nowhere said) (λ _. nowhere (other p t last)))
-    (λ _. pick-ind P (leb (r .order) last) _ _ (λ _. nowhere 5)
-    (λ e. pick-ind P (fits (r .rule) n) _ _ (λ f. later (leb-false (r .order) last e) f) (λ _. nowhere 5))))
+    pick-ind P (isMalformed said) _ _ (λ _. nowhere Verdict.Malformed)
+    (λ _. pick-ind P (eqb (r .order) 0) _ _ (λ _. nowhere (saidWith said (other p t last)))
+    (λ _. pick-ind P (leb (r .order) last) _ _ (λ _. nowhere Verdict.Malformed)
+    (λ e. pick-ind P (fits (r .rule) n) _ _ (λ f. later (leb-false (r .order) last e) f) (λ _. nowhere Verdict.Malformed))))
 
 -- a value has a length that fits the rule of order o in parent p
 pub record Fitting (p o : ℕ) (v : List ℕ) : Type 0 where
@@ -78,7 +79,7 @@ walked-fits p l o =
     (walked-ind (λ (f : Fields) (r : List ℕ). (o : ℕ) → 1 ≤ o → Fit p o (getD (f .vals) o absent)) p (λ o _. none-fits p 11 o o)
     (λ f l t v r e h.
     set-each (λ (o : ℕ) (x : Field). 1 ≤ o → Fit p o x) (f .vals) _ (here v (length r))
-    (judged-met (λ (d : Verdict). 1 ≤ d .order → Fitting p (d .order) v) p (f .said) (f .last) t (length v) (λ m a. absurd (omega arith))
+    (judged-met (λ (d : Next). 1 ≤ d .order → Fitting p (d .order) v) p (f .said) (f .last) t (length v) (λ m a. absurd (omega arith))
     (λ _ a _. record { typ = t; order = refl; fit = a }))
     h)
     l noFields (λ o _. none-fits p 11 o o) o)

@@ -14,7 +14,8 @@ use Rattle.laws.specs.Pick.{pick}
 use Rattle.laws.specs.Laws.Pick.{pick-ind}
 use Rattle.laws.specs.Laws.Loop.{and-both}
 use Rattle.grammar.specs.declared.Row.{Row}
-use Rattle.grammar.specs.Table.{table, none, hit, rowOf, interest, dat, meta, fragment, lp, nack}
+use Rattle.grammar.specs.Table.{table, none, hit, rowOf}
+use Rattle.grammar.specs.Types as types
 use Rattle.grammar.specs.Places.Table.{start}
 
 -- the row at a place of the table
@@ -51,12 +52,12 @@ pub record Sought (p t i : ℕ) : Type 0 where
 pub sought-start : (p t : ℕ) → Sought p t (start p)
 unfolding start
 sought-start p t =
-    pick-ind (Sought p t) (eqb p interest) _ _ (λ e. from interest 3 e (omega arith) (unfold table rowOf pick in refl))
-    (λ _. pick-ind (Sought p t) (eqb p dat) _ _ (λ e. from dat 13 e (omega arith) (unfold table rowOf pick in refl))
-    (λ _. pick-ind (Sought p t) (eqb p meta) _ _ (λ e. from meta 18 e (omega arith) (unfold table rowOf pick in refl))
-    (λ _. pick-ind (Sought p t) (eqb p fragment) _ _ (λ e. from fragment 21 e (omega arith) (unfold table rowOf pick in refl))
-    (λ _. pick-ind (Sought p t) (eqb p lp) _ _ (λ e. from lp 23 e (omega arith) (unfold table rowOf pick in refl))
-    (λ _. pick-ind (Sought p t) (eqb p nack) _ _ (λ e. from nack 25 e (omega arith) (unfold table rowOf pick in refl))
+    pick-ind (Sought p t) (eqb p types.interest) _ _ (λ e. from types.interest 3 e (omega arith) (unfold table rowOf pick in refl))
+    (λ _. pick-ind (Sought p t) (eqb p types.dat) _ _ (λ e. from types.dat 13 e (omega arith) (unfold table rowOf pick in refl))
+    (λ _. pick-ind (Sought p t) (eqb p types.metaInfo) _ _ (λ e. from types.metaInfo 18 e (omega arith) (unfold table rowOf pick in refl))
+    (λ _. pick-ind (Sought p t) (eqb p types.fragment) _ _ (λ e. from types.fragment 21 e (omega arith) (unfold table rowOf pick in refl))
+    (λ _. pick-ind (Sought p t) (eqb p types.lpPacket) _ _ (λ e. from types.lpPacket 23 e (omega arith) (unfold table rowOf pick in refl))
+    (λ _. pick-ind (Sought p t) (eqb p types.nack) _ _ (λ e. from types.nack 25 e (omega arith) (unfold table rowOf pick in refl))
     (λ _. record { inside = omega arith; same = refl }))))))
   where
     from : (q i : ℕ) → eqb p q ≡ true → i ≤ 26 → rowOf q t (drop i table) ≡ rowOf q t table → Sought p t i

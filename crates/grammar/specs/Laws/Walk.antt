@@ -4,7 +4,6 @@
 use Prim.Native.Nat.{ℕ, zero, suc, _+_, _-_, _^_, _≤_, _<_}
 use mathlib.Core.Path.{_≡_, refl, sym, _∙_, ap}
 use mathlib.Core.List.{List, [], _∷_, _++_, map}
-use mathlib.Core.Logic.{_⊎_, inl, inr}
 use lib.ListN.{length, take, drop, getD, set, replicate, length-drop, List·getD-map}
 use lib.Seq.{drop-drop, drop-length}
 use lib.Dec.{leb, eqb}
@@ -19,15 +18,18 @@ use Rattle.wire.specs.Element.{elem, element, Split, more, stop, elements, ende
 use Rattle.wire.specs.Places.Place.{elementAt}
 use Rattle.wire.specs.Laws.Within.{Found, read-is, value-length, ElementWithin, element-within}
 use Rattle.wire.specs.Laws.Walk.{elements-ind, elements-stop, elements-none, elements-more, walk-end, walk-bad, walk-more}
-use Rattle.wire.specs.Laws.Bytes.{Bytes, bytes-drop, bytes-take}
+use Rattle.wire.specs.Bytes.{Bytes}
+use Rattle.wire.specs.Laws.Bytes.{bytes-drop, bytes-take}
 use Rattle.wire.specs.Write.{written}
 use Rattle.wire.specs.Laws.Round.{element-written}
 use Rattle.grammar.specs.declared.Place.{Place}
 use Rattle.grammar.specs.declared.Row.{Row}
-use Rattle.grammar.specs.declared.Verdict.{Verdict}
-use Rattle.grammar.specs.Table.{table, rowOf, fits, other, skippedLp, critical, lp, nack}
+use Rattle.wire.specs.declared.verdict.Verdict.{Verdict}
+use Rattle.wire.specs.Verdict.{isMalformed}
+use Rattle.grammar.specs.declared.Next.{Next}
+use Rattle.grammar.specs.Table.{table, rowOf, fits, other}
 use Rattle.grammar.specs.Laws.Table.{row-small}
-use Rattle.grammar.specs.Walk.{verdict, markedBy, known, unknown, judged, Item, item, Field, absent, here, Fields, noFields, brokenFields, met, metAll, walkedFrom, walked}
+use Rattle.grammar.specs.Walk.{next, saidWith, known, judged, Item, item, Field, absent, here, Fields, noFields, brokenFields, met, metAll, walkedFrom, walked}
 use Rattle.grammar.specs.Places.Walk.{placeIn, foundIn}
 
 -- ---- a walk, an element at a time
@@ -79,7 +81,7 @@ found-placed {s} {at} {e} {c} h =
     let a : length s - length (drop (c .at) s) - e .len ≡ e .at = omega (arith, length-drop (c .at) s) in rw (value-length h, a)
 
 -- the loop at place at of s: the fields f are met, whose places are the loop's, and what they and the bytes left say is what all say
-pub record Walking (p : ℕ) (s : List ℕ) (at said last : ℕ) (places : List Place) : Type 0 where
+pub record Walking (p : ℕ) (s : List ℕ) (at : ℕ) (said : Verdict) (last : ℕ) (places : List Place) : Type 0 where
   pub f : Fields
   pub said-is : said ≡ f .said
   pub last-is : last ≡ f .last
@@ -87,11 +89,11 @@ pub record Walking (p : ℕ) (s : List ℕ) (at said last : ℕ) (places : List 
   pub same : walkedFrom p f (elements item (drop at s)) ≡ walked p s
 
 -- the loop starts with no field
-pub walking-start : (p : ℕ) (s : List ℕ) → Walking p s 0 0 0 (replicate 11 (record { at = 0; len = 0 }))
+pub walking-start : (p : ℕ) (s : List ℕ) → Walking p s 0 Verdict.Fine 0 (replicate 11 (record { at = 0; len = 0 }))
 unfolding noFields placeIn
 walking-start p s = record { f = noFields; said-is = refl; last-is = refl; places-are = refl; same = walked-from p s }
 
-module _ {p : ℕ} {s : List ℕ} {at said last : ℕ} {places : List Place} (w : Walking p s at said last places) where
+module _ {p : ℕ} {s : List ℕ} {at : ℕ} {said : Verdict} {last : ℕ} {places : List Place} (w : Walking p s at said last places) where
   -- at the end of s the loop has what the walk says
   pub walking-end : length s ≤ at → record { said = said; last = last; places = places } ≡ foundIn (length s) (walked p s)
   unfolding foundIn
@@ -101,15 +103,15 @@ module _ {p : ℕ} {s : List ℕ} {at said last : ℕ} {places : List Place} (w 
 
   -- at a fault the walk says 5, with no field
   pub walking-bad : at < length s → elementAt s at ≡ Read.Bad
-      → record { said = 5; last = 0; places = replicate 11 (record { at = 0; len = 0 }) } ≡ foundIn (length s) (walked p s)
+      → record { said = Verdict.Malformed; last = 0; places = replicate 11 (record { at = 0; len = 0 }) } ≡ foundIn (length s) (walked p s)
   unfolding foundIn brokenFields placeIn
   walking-bad h b =
       let e : brokenFields ≡ walked p s =
       sym (walked-broken p (w .f) (drop at s) (omega (arith, length-drop at s))) ∙ ap (walkedFrom p (w .f)) (sym (walk-bad item s at b)) ∙ w .same in
       rw (← e)
 
-  -- past an element, of which v is the verdict, the loop goes on with its field
-  pub walking-more : (e : Element) (c : Cursor) (v : Verdict) → elementAt s at ≡ Read.Is e c → v ≡ judged p said last (e .typ) (e .len)
+  -- past an element, which v is next, the loop goes on with its field
+  pub walking-more : (e : Element) (c : Cursor) (v : Next) → elementAt s at ≡ Read.Is e c → v ≡ judged p said last (e .typ) (e .len)
       → Walking p s (c .at) (v .said) (v .last) (set places (v .order) (record { at = e .at; len = e .len }))
   unfolding met
   walking-more e c v i j =
@@ -120,52 +122,31 @@ module _ {p : ℕ} {s : List ℕ} {at said last : ℕ} {places : List Place} (w 
       let q : placeIn (length s) (here (k .value) (k .left)) ≡ record { at = e .at; len = e .len } = found-placed h in
       record {
         f = met p (w .f) k;
-        said-is = ap (λ (x : Verdict). x .said) d;
-        last-is = ap (λ (x : Verdict). x .last) d;
+        said-is = ap (λ (x : Next). x .said) d;
+        last-is = ap (λ (x : Next). x .last) d;
         places-are = rw (map-set (placeIn (length s)) (w .f .vals) _ (here (k .value) (k .left)), q, w .places-are, d);
         same = sym (walked-more p (w .f) k (elements item (drop (c .at) s))) ∙ ap (walkedFrom p (w .f)) (sym (walk-more item s at e c i)) ∙ w .same;
       }
 
 -- ---- what holds of every walk
 
--- what holds of each of four verdicts, a fault, an element skipped, one not known that says something, and one known, holds of any
-judged-ind : (P : Verdict → Type 0) (p said last t n : ℕ)
-    → P (verdict 5 last 0)
-    → P (verdict said last 0)
-    → P (verdict (other p t last) last 0)
-    → P (verdict (markedBy (rowOf p t table .mark) said) (rowOf p t table .order) (rowOf p t table .order))
+-- what holds after a fault, after an element that is not known, and after one that is, holds after any
+judged-ind : (P : Next → Type 0) (p : ℕ) (said : Verdict) (last t n : ℕ)
+    → P (next Verdict.Malformed last 0)
+    → P (next (saidWith said (other p t last)) last 0)
+    → P (next (saidWith said (rowOf p t table .says)) (rowOf p t table .order) (rowOf p t table .order))
     → P (judged p said last t n)
-unfolding judged known unknown
-judged-ind P p said last t n five skip says is =
+unfolding judged known
+judged-ind P p said last t n five says is =
     let r : Row = rowOf p t table in
-    pick-ind P (eqb said 5) _ _ (λ _. five)
-    (λ _. pick-ind P (eqb (r .order) 0) _ _ (λ _. pick-ind P (eqb (other p t last) 0) _ _ (λ _. skip) (λ _. says))
+    pick-ind P (isMalformed said) _ _ (λ _. five)
+    (λ _. pick-ind P (eqb (r .order) 0) _ _ (λ _. says)
     (λ _. pick-ind P (leb (r .order) last) _ _ (λ _. five) (λ _. pick-ind P (fits (r .rule) n) _ _ (λ _. is) (λ _. five))))
 
--- a verdict's place is one of 11, by the table's orders
-pub order-small : (p said last t n : ℕ) → judged p said last t n .order < 11
+-- an element's order is one of 11, by the table's orders
+pub order-small : (p : ℕ) (said : Verdict) (last t n : ℕ) → judged p said last t n .order < 11
 order-small p said last t n =
-    judged-ind (λ (v : Verdict). v .order < 11) p said last t n (omega arith) (omega arith) (omega arith) (row-small p t)
-
--- 0, 5 or 6
-abbrev pub Says : ℕ → Type 0
-Says n = (n ≡ 0) ⊎ ((n ≡ 5) ⊎ (n ≡ 6))
-
--- what an element of a type that is not known says is 0, 5 or 6
-other-says : (p t last : ℕ) → Says (other p t last)
-unfolding other
-other-says p t last =
-    pick-ind Says (eqb p nack) _ _ (λ _. inr (inl refl))
-    (λ _. pick-ind Says (eqb p lp) _ _
-    (λ _. pick-ind Says (eqb last 2) _ _ (λ _. inr (inl refl)) (λ _. pick-ind Says (skippedLp t) _ _ (λ _. inl refl) (λ _. inr (inr refl))))
-    (λ _. pick-ind Says (critical t) _ _ (λ _. inr (inl refl)) (λ _. inl refl)))
-
--- a verdict says 0, 5 or 6 where one of them was said before
-judged-says : (p said last t n : ℕ) → Says said → Says (judged p said last t n .said)
-unfolding markedBy
-judged-says p said last t n h =
-    judged-ind (λ (v : Verdict). Says (v .said)) p said last t n (inr (inl refl)) h (other-says p t last)
-    (pick-ind Says (eqb (rowOf p t table .mark) 6) _ _ (λ _. inr (inr refl)) (λ _. h))
+    judged-ind (λ (v : Next). v .order < 11) p said last t n (omega arith) (omega arith) (row-small p t)
 
 -- what holds of the fields with which a walk begins and of the bytes left, of broken fields, and with an element more, holds where it ends
 pub walked-ind : (P : Fields → List ℕ → Type 0) (p : ℕ)

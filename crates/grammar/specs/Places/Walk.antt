@@ -1,4 +1,4 @@
--- The verdict on one element, and the walk over all elements of a parent, over a list of bytes.
+-- What a walk found, by the places of its fields.
 -- Assumes nothing.
 use Prim.Native.Nat.{ℕ, _-_}
 use mathlib.Core.List.{map}

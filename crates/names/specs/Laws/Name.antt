@@ -14,21 +14,22 @@ use Rattle.laws.specs.Laws.Pick.{pick-ind}
 use Rattle.wire.specs.declared.read.Cursor.{Cursor}
 use Rattle.wire.specs.declared.read.Element.{Element}
 use Rattle.wire.specs.declared.read.Read.{Read}
+use Rattle.wire.specs.declared.verdict.Verdict.{Verdict}
 use Rattle.wire.specs.Element.{Split, ended}
 use Rattle.wire.specs.Places.Place.{elementAt}
 use Rattle.wire.specs.Laws.Within.{read-bad, read-is}
 use Rattle.wire.specs.Laws.Walk.{walk-end, walk-bad, walk-more}
 use Rattle.names.specs.declared.component.Counted.{Counted}
 use Rattle.laws.specs.Lists.{anyOf}
-use Rattle.names.specs.Name.{Component, tooHigh, marked, component, components, counted, sameBytes, firstIs}
+use Rattle.names.specs.Name.{Component, counts, tooHigh, marked, component, components, counted, sameBytes, firstIs}
 
 -- what components say behind n others: `judged`, with whether a marked one was met among those, and their count
 unfoldable pub judgedFrom : Bool → ℕ → Split Component → Counted
 judgedFrom met n p =
     pick (ended p)
-    (pick (anyOf tooHigh (p .items)) Counted.Malformed
-    (pick (met || anyOf marked (p .items)) Counted.Unsupported (Counted.Count (n + length (p .items)))))
-    Counted.Malformed
+    (pick (anyOf tooHigh (p .items)) (counts Verdict.Malformed 0)
+    (counts (pick (met || anyOf marked (p .items)) Verdict.Unsupported Verdict.Fine) (n + length (p .items))))
+    (counts Verdict.Malformed 0)
 
 -- from the first component on
 pub judged-first : (s : List ℕ) → judgedFrom false 0 (components s) ≡ counted s
@@ -37,22 +38,22 @@ judged-first s = let z : 0 + length (components s .items) ≡ length (components
 
 module _ (met : Bool) (n : ℕ) (s : List ℕ) (at : ℕ) where
   -- behind the last component
-  pub judged-end : length s ≤ at → judgedFrom met n (components (drop at s)) ≡ pick met Counted.Unsupported (Counted.Count n)
+  pub judged-end : length s ≤ at → judgedFrom met n (components (drop at s)) ≡ counts (pick met Verdict.Unsupported Verdict.Fine) n
   unfolding components judgedFrom pick ended anyOf
   judged-end h = let z : n + 0 ≡ n = omega arith in rw (walk-end component s at h, or-false met, z)
 
   -- bytes are left that are no component
-  pub judged-fault : at < length s → elementAt s at ≡ Read.Bad → judgedFrom met n (components (drop at s)) ≡ Counted.Malformed
+  pub judged-fault : at < length s → elementAt s at ≡ Read.Bad → judgedFrom met n (components (drop at s)) ≡ counts Verdict.Malformed 0
   unfolding components judgedFrom pick ended
   judged-fault h e = rw (walk-bad component s at e, length-drop at s, ne-eqb (length s - at) 0 (λ q. omega arith))
 
   module _ (e : Element) (c : Cursor) (i : elementAt s at ≡ Read.Is e c) where
     -- a component whose type is too high
-    pub judged-high : 65535 < e .typ → judgedFrom met n (components (drop at s)) ≡ Counted.Malformed
+    pub judged-high : 65535 < e .typ → judgedFrom met n (components (drop at s)) ≡ counts Verdict.Malformed 0
     unfolding components judgedFrom anyOf tooHigh ended pick
     judged-high h =
         rw (walk-more component s at e c i, lt-ltb 65535 (e .typ) h)
-        (pick-ind (λ r. r ≡ Counted.Malformed) (ended (components (drop (c .at) s))) Counted.Malformed Counted.Malformed (λ q. refl) (λ q. refl))
+        (pick-ind (λ r. r ≡ counts Verdict.Malformed 0) (ended (components (drop (c .at) s))) _ _ (λ q. refl) (λ q. refl))
 
     -- any other component is noted and counted
     pub judged-more : e .typ ≤ 65535

@@ -18,7 +18,7 @@ use Rattle.wire.specs.declared.read.Cursor.{Cursor}
 use Rattle.wire.specs.declared.read.Element.{Element}
 use Rattle.wire.specs.declared.read.Read.{Read}
 use Rattle.wire.specs.Element.{Split, ended}
-use Rattle.wire.specs.Laws.Bytes.{Bytes}
+use Rattle.wire.specs.Bytes.{Bytes}
 use Rattle.wire.specs.Places.Place.{elementAt}
 use Rattle.wire.specs.Laws.Walk.{walk-bad, walk-more}
 use Rattle.names.specs.declared.order.Order.{Order}

@@ -14,7 +14,7 @@ use native.Mathlib.Numerals.{add-one}
 use native.Mathlib.Omega.{arith}
 use Rattle.wire.specs.Element.{Split, ended}
 use Rattle.wire.specs.Write.{written}
-use Rattle.wire.specs.Laws.Bytes.{Bytes}
+use Rattle.wire.specs.Bytes.{Bytes}
 use Rattle.wire.specs.Laws.Walk.{ended-same, kept}
 use Rattle.wire.specs.Laws.Exact.{Item, item, joined, elements-exact}
 use Rattle.wire.specs.Laws.Extend.{elements-extend}

@@ -7,8 +7,9 @@ use mathlib.Core.List.{List, [], _∷_, _++_, map}
 use lib.ListN.{replicate}
 use Rattle.wire.specs.Number.{number}
 use Rattle.wire.specs.Element.{element}
+use Rattle.wire.specs.declared.verdict.Verdict.{Verdict}
 use Rattle.names.specs.declared.component.Counted.{Counted}
-use Rattle.names.specs.Name.{counted, localhost, localhop, underLocalhost, underLocalhop}
+use Rattle.names.specs.Name.{counts as tells, counted, localhost, localhop, underLocalhost, underLocalhop}
 use Rattle.names.specs.Fingerprint.{fnv, fnvStart, fingerprint}
 
 -- FNV-1a of "", "a" and "foobar" as published, and the fingerprint of the name /a with the nonce 0x01020304
@@ -34,27 +35,27 @@ case b w = record { bytes = b; says = w }
 pub cases : List Case
 cases =
     -- no component, one, one without bytes, two
-    case [] (Counted.Count 0)
-    ∷ case (0x08 ∷ 0x01 ∷ 0x61 ∷ []) (Counted.Count 1)
-    ∷ case (0x08 ∷ 0x00 ∷ []) (Counted.Count 1)
-    ∷ case (0x08 ∷ 0x01 ∷ 0x61 ∷ 0x08 ∷ 0x01 ∷ 0x62 ∷ []) (Counted.Count 2)
+    case [] (tells Verdict.Fine 0)
+    ∷ case (0x08 ∷ 0x01 ∷ 0x61 ∷ []) (tells Verdict.Fine 1)
+    ∷ case (0x08 ∷ 0x00 ∷ []) (tells Verdict.Fine 1)
+    ∷ case (0x08 ∷ 0x01 ∷ 0x61 ∷ 0x08 ∷ 0x01 ∷ 0x62 ∷ []) (tells Verdict.Fine 2)
     -- types 0, 1, 2, 3, 65535 and 65536
-    ∷ case (0x00 ∷ 0x00 ∷ []) Counted.Malformed
-    ∷ case (0x01 ∷ 0x00 ∷ []) Counted.Unsupported
-    ∷ case (0x01 ∷ 0x20 ∷ replicate 32 0x61) Counted.Unsupported
-    ∷ case (0x02 ∷ 0x00 ∷ []) Counted.Unsupported
-    ∷ case (0x02 ∷ 0x03 ∷ replicate 3 0x61) Counted.Unsupported
-    ∷ case (0x03 ∷ 0x00 ∷ []) (Counted.Count 1)
-    ∷ case (0xFD ∷ 0xFF ∷ 0xFF ∷ 0x00 ∷ []) (Counted.Count 1)
-    ∷ case (0xFE ∷ 0x00 ∷ 0x01 ∷ 0x00 ∷ 0x00 ∷ 0x00 ∷ []) Counted.Malformed
+    ∷ case (0x00 ∷ 0x00 ∷ []) (tells Verdict.Malformed 0)
+    ∷ case (0x01 ∷ 0x00 ∷ []) (tells Verdict.Unsupported 1)
+    ∷ case (0x01 ∷ 0x20 ∷ replicate 32 0x61) (tells Verdict.Unsupported 1)
+    ∷ case (0x02 ∷ 0x00 ∷ []) (tells Verdict.Unsupported 1)
+    ∷ case (0x02 ∷ 0x03 ∷ replicate 3 0x61) (tells Verdict.Unsupported 1)
+    ∷ case (0x03 ∷ 0x00 ∷ []) (tells Verdict.Fine 1)
+    ∷ case (0xFD ∷ 0xFF ∷ 0xFF ∷ 0x00 ∷ []) (tells Verdict.Fine 1)
+    ∷ case (0xFE ∷ 0x00 ∷ 0x01 ∷ 0x00 ∷ 0x00 ∷ 0x00 ∷ []) (tells Verdict.Malformed 0)
     -- 5 before 6: behind a marked component stands a cut one, or one whose type is too high
-    ∷ case (0x01 ∷ 0x00 ∷ 0x08 ∷ 0x02 ∷ 0x61 ∷ []) Counted.Malformed
-    ∷ case (0x01 ∷ 0x00 ∷ 0xFE ∷ 0x00 ∷ 0x01 ∷ 0x00 ∷ 0x00 ∷ 0x00 ∷ []) Counted.Malformed
-    ∷ case (0x08 ∷ 0x01 ∷ 0x61 ∷ 0x02 ∷ 0x00 ∷ []) Counted.Unsupported
+    ∷ case (0x01 ∷ 0x00 ∷ 0x08 ∷ 0x02 ∷ 0x61 ∷ []) (tells Verdict.Malformed 0)
+    ∷ case (0x01 ∷ 0x00 ∷ 0xFE ∷ 0x00 ∷ 0x01 ∷ 0x00 ∷ 0x00 ∷ 0x00 ∷ []) (tells Verdict.Malformed 0)
+    ∷ case (0x08 ∷ 0x01 ∷ 0x61 ∷ 0x02 ∷ 0x00 ∷ []) (tells Verdict.Unsupported 2)
     -- a component that is cut, one without a length, and a type that is not in its shortest form
-    ∷ case (0x08 ∷ 0x02 ∷ 0x61 ∷ []) Counted.Malformed
-    ∷ case (0x08 ∷ []) Counted.Malformed
-    ∷ case (0xFD ∷ 0x00 ∷ 0x08 ∷ 0x00 ∷ []) Counted.Malformed
+    ∷ case (0x08 ∷ 0x02 ∷ 0x61 ∷ []) (tells Verdict.Malformed 0)
+    ∷ case (0x08 ∷ []) (tells Verdict.Malformed 0)
+    ∷ case (0xFD ∷ 0x00 ∷ 0x08 ∷ 0x00 ∷ []) (tells Verdict.Malformed 0)
     ∷ []
 
 pub counts : map (λ (c : Case). counted (c .bytes)) cases ≡ map (λ (c : Case). c .says) cases

@@ -16,25 +16,19 @@ use Rattle.wire.specs.Places.Place.{elementAt}
 use Rattle.wire.specs.Laws.Within.{read-is, read-bad, value-length}
 use Rattle.answers.specs.declared.Answer.{Answer}
 use Rattle.grammar.specs.declared.Found.{Found}
-use Rattle.grammar.specs.Table.{interest}
+use Rattle.grammar.specs.Types.{interest}
 use Rattle.grammar.specs.Walk.{Field, absent, here, Fields, walked}
 use Rattle.grammar.specs.Places.Walk.{placeIn}
 use Rattle.grammar.specs.Laws.Walk.{FieldIn, walked-in, place-inside}
 use Rattle.names.specs.declared.component.Counted.{Counted}
 use Rattle.names.specs.Name.{counted}
-use Rattle.packets.specs.declared.header.Nacked.{Nacked}
-use Rattle.packets.specs.Header.{val, bytesIn, missing, present, wholeNumber}
-use Rattle.packets.specs.Places.Header.{partAt}
+use Rattle.packethead.specs.declared.header.Nacked.{Nacked}
+use Rattle.packethead.specs.Header.{val, bytesIn, missing, present, wholeNumber}
+use Rattle.packethead.specs.Places.Header.{partAt}
 use Rattle.packets.specs.Bare.{refused, askedBy, kindRead, bareRead, lifetimeOf, freshnessOf}
 use Rattle.packets.specs.Places.Bare.{hopIn, interestIn, packetIn, thereAt, movedBy, lifetimeAt, freshnessAt, hopAt, nackedPacket, nameSays, IsFound}
-use Rattle.packets.specs.Laws.Part as part
-use Rattle.packets.specs.Laws.Part.{part-field, placeOf}
-
--- ---- by places: an absent field has its place at 0
-
--- ---- of a value v that stands at base and ends with the packet
-
--- ---- what a walk found
+use Rattle.packethead.specs.Laws.Part as part
+use Rattle.packethead.specs.Laws.Part.{part-field, placeOf}
 
 -- ---- a field by its place
 

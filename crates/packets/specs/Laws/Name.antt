@@ -9,27 +9,30 @@ use mathlib.Core.List.{List, [], _∷_}
 use lib.ListN.{length, length-set}
 use lib.Seq.{getD-set-same, getD-set-other}
 use lib.Dec.{eqb}
-use borrow.Author.Tests.{eqb-true, eqb-false, ne-eqb}
+use borrow.Author.Tests.{eqb-true, eqb-false}
 use native.Mathlib.Omega.{arith}
 use Rattle.laws.specs.Pick.{pick}
 use Rattle.laws.specs.Laws.Pick.{pick-ind}
 use Rattle.wire.specs.Element.{elem, element, elements, ended}
 use Rattle.grammar.specs.declared.Row.{Row}
-use Rattle.grammar.specs.declared.Verdict.{Verdict}
-use Rattle.grammar.specs.Table.{row, any, table, rowOf, fits, interest, dat}
+use Rattle.wire.specs.declared.verdict.Verdict.{Verdict}
+use Rattle.wire.specs.Verdict.{isMalformed}
+use Rattle.grammar.specs.declared.Next.{Next}
+use Rattle.grammar.specs.Types.{interest, dat}
+use Rattle.grammar.specs.Table.{row, any, table, rowOf, fits}
 use Rattle.grammar.specs.Laws.Table.{eachRow, row-each}
 use Rattle.grammar.specs.Laws.Fits.{row-found, judged-met}
-use Rattle.grammar.specs.Walk.{markedBy, known, judged, Item, item, absent, here, Fields, noFields, brokenFields, met, metAll, walkedFrom, walked}
+use Rattle.grammar.specs.Walk.{saidWith, known, judged, Item, item, absent, here, Fields, noFields, brokenFields, met, metAll, walkedFrom, walked}
 use Rattle.grammar.specs.Laws.Walk.{walked-from}
-use Rattle.packets.specs.declared.header.Nacked.{Nacked}
-use Rattle.packets.specs.Header.{val, bytesIn, missing}
+use Rattle.packethead.specs.declared.header.Nacked.{Nacked}
+use Rattle.packethead.specs.Header.{val, bytesIn, missing}
 use Rattle.packets.specs.Bare.{asks, brings, nacks, bareRead}
-use Rattle.packets.specs.Name.{firstName, nameIn, nameOf}
+use Rattle.packethead.specs.Name.{firstName, nameIn, nameOf}
 use Rattle.packets.specs.Laws.Shape.{IsInterest, IsData, asks-made, brings-made, nacks-made}
 
 -- a parent in which order 1 is that of a Name alone, of any length
 record Naming (p : ℕ) : Type 0 where
-  name : rowOf p 0x07 table ≡ row 0x07 p 1 any 0
+  name : rowOf p 0x07 table ≡ row 0x07 p 1 any Verdict.Fine
   only : (t : ℕ) → rowOf p t table .order ≡ 1 → t ≡ 0x07
 
 -- whether a row of order 1 in an Interest or in a Data is that of a Name
@@ -59,10 +62,18 @@ data-naming = record { name = unfold table rowOf pick in refl; only = λ t. name
 
 module _ (p : ℕ) where
   -- once 5 is said it stays
-  five-stays : (f : Fields) (is : List Item) → f .said ≡ 5 → metAll p f is .said ≡ 5
+  five-stays : (f : Fields) (is : List Item) → isMalformed (f .said) ≡ true → isMalformed (metAll p f is .said) ≡ true
   unfolding metAll met judged pick
   five-stays f [] e = e
   five-stays f (i ∷ is) e = five-stays (met p f i) is (rw e)
+
+  -- what is not malformed at the end was not before
+  fine-before : (f : Fields) (is : List Item) → isMalformed (metAll p f is .said) ≡ false → isMalformed (f .said) ≡ false
+  fine-before f is n = go (isMalformed (f .said)) refl
+    where
+      go : (b : Bool) → isMalformed (f .said) ≡ b → isMalformed (f .said) ≡ false
+      go false e = e
+      go true e = absurd (let q = five-stays f is e in let z : _≡_ {A = ℕ} 0 1 = cc in omega arith)
 
   -- an element of another order leaves the Name
   met-other : (f : Fields) (i : Item) → judged p (f .said) (f .last) (i .typ) (length (i .value)) .order ≢ 1 → val (met p f i) 1 ≡ val f 1
@@ -79,35 +90,35 @@ module _ (p : ℕ) where
   unfolding metAll met
   name-stays f [] h = refl
   name-stays f (i ∷ is) h =
-      let j = judged-met (λ (d : Verdict). (1 ≤ d .last) × (d .order ≢ 1)) p (f .said) (f .last) (i .typ) (length (i .value))
+      let j = judged-met (λ (d : Next). (1 ≤ d .last) × (d .order ≢ 1)) p (f .said) (f .last) (i .typ) (length (i .value))
       (λ m. (h, λ z. omega arith)) (λ k _. (omega arith, λ z. omega arith)) in
       name-stays (met p f i) is (j .0) ∙ met-other f i (j .1)
 
   module _ (naming : Naming p) where
     -- before any other known element an element of type 7 is the Name
-    met-name : (f : Fields) (i : Item) → i .typ ≡ 0x07 → f .said ≢ 5 → f .last ≡ 0 → 1 < length (f .vals)
+    met-name : (f : Fields) (i : Item) → i .typ ≡ 0x07 → isMalformed (f .said) ≡ false → f .last ≡ 0 → 1 < length (f .vals)
         → (val (met p f i) 1 ≡ here (i .value) (i .left)) × (met p f i .last ≡ 1)
-    unfolding met judged known markedBy fits pick
+    unfolding met judged known saidWith fits pick
     met-name f i t n z h =
-        rw (t, ne-eqb (f .said) 5 n, naming .name, z) (getD-set-same (f .vals) 1 (here (i .value) (i .left)) absent h, refl)
+        rw (t, n, naming .name, z) (getD-set-same (f .vals) 1 (here (i .value) (i .left)) absent h, refl)
 
     -- an element of another type is not the Name
     met-no-name : (f : Fields) (i : Item) → i .typ ≢ 0x07 → val (met p f i) 1 ≡ val f 1
     met-no-name f i t =
         met-other f i
-        (judged-met (λ (d : Verdict). d .order ≢ 1) p (f .said) (f .last) (i .typ) (length (i .value))
+        (judged-met (λ (d : Next). d .order ≢ 1) p (f .said) (f .last) (i .typ) (length (i .value))
         (λ m e. omega arith) (λ _ _ e. t (naming .only (i .typ) e)))
 
     -- the first element of type 7 is the Name, where there is a Name and nothing is 5
     name-first : (f : Fields) (is : List Item) → f .last ≡ 0 → val f 1 ≡ absent → 1 < length (f .vals)
-        → metAll p f is .said ≢ 5 → missing (val (metAll p f is) 1) ≡ false → firstName is ≡ bytesIn (val (metAll p f is) 1)
+        → isMalformed (metAll p f is .said) ≡ false → missing (val (metAll p f is) 1) ≡ false → firstName is ≡ bytesIn (val (metAll p f is) 1)
     unfolding metAll firstName
     name-first f [] z a h n m = absurd (let q : missing absent ≡ false = rw a at m in let r : _≡_ {A = ℕ} 0 1 = cc in omega arith)
     name-first f (i ∷ is) z a h n m =
         let g : Fields = met p f i in
         pick-ind (λ (x : List ℕ). x ≡ bytesIn (val (metAll p g is) 1)) (eqb (i .typ) 0x07) _ _
         (λ e.
-        let q = met-name f i (eqb-true (i .typ) 0x07 e) (λ s. n (five-stays f (i ∷ is) s)) z h in
+        let q = met-name f i (eqb-true (i .typ) 0x07 e) (fine-before f (i ∷ is) n) z h in
         sym (ap bytesIn (name-stays g is (omega (arith, q .1)) ∙ q .0)))
         (λ e.
         let b : val g 1 ≡ absent = met-no-name f i (eqb-false (i .typ) 0x07 e) ∙ a in
@@ -120,17 +131,26 @@ module _ (p : ℕ) where
             absurd (let q : missing absent ≡ false = rw (name-stays g is (omega arith), b) at m in let r : _≡_ {A = ℕ} 0 1 = cc in omega arith)
 
     -- the finder finds the Name of a value that is not 5
-    name-agrees : (v : List ℕ) → walked p v .said ≢ 5 → missing (val (walked p v) 1) ≡ false → nameIn v ≡ bytesIn (val (walked p v) 1)
+    name-agrees : (v : List ℕ) → isMalformed (walked p v .said) ≡ false → missing (val (walked p v) 1) ≡ false → nameIn v ≡ bytesIn (val (walked p v) 1)
     unfolding nameIn walkedFrom noFields brokenFields
     name-agrees v =
         rw (← walked-from p v)
-        (pick-ind (λ (f : Fields). f .said ≢ 5 → missing (val f 1) ≡ false → firstName (elements item v .items) ≡ bytesIn (val f 1))
+        (pick-ind (λ (f : Fields). isMalformed (f .said) ≡ false → missing (val f 1) ≡ false → firstName (elements item v .items) ≡ bytesIn (val f 1))
         (ended (elements item v)) _ _
         (λ _. name-first noFields (elements item v .items) refl refl (omega arith))
-        (λ _ n. absurd (n refl)))
+        (λ _ n. absurd (let z : _≡_ {A = ℕ} 0 1 = cc in omega arith)))
+
+-- that of an Interest's value
+pub interest-finds : (v : List ℕ) → isMalformed (walked interest v .said) ≡ false → missing (val (walked interest v) 1) ≡ false
+    → nameIn v ≡ bytesIn (val (walked interest v) 1)
+interest-finds v = name-agrees interest interest-naming v
+
+-- that of a Data's value
+pub data-finds : (v : List ℕ) → isMalformed (walked dat v .said) ≡ false → missing (val (walked dat v) 1) ≡ false → nameIn v ≡ bytesIn (val (walked dat v) 1)
+data-finds v = name-agrees dat data-naming v
 
 -- the Name of a packet of one element is that in its value
-name-of : (l : List ℕ) {t : ℕ} {v r : List ℕ} → element l ≡ elem t v r → nameOf l ≡ nameIn v
+pub name-of : (l : List ℕ) {t : ℕ} {v r : List ℕ} → element l ≡ elem t v r → nameOf l ≡ nameIn v
 unfolding nameOf
 name-of l e = rw e
 
@@ -138,13 +158,13 @@ name-of l e = rw e
 interest-name : (m : Bool) (l : List ℕ) (f : Fields) → IsInterest m l f → nameOf l ≡ bytesIn (val f 1)
 interest-name m l f i =
     let w = i .fields in
-    name-of l (i .is) ∙ rw w (name-agrees interest interest-naming (i .value) (rw w at (i .asking .fine)) (rw w at (i .asking .name)))
+    name-of l (i .is) ∙ rw w (interest-finds (i .value) (rw w at (i .asking .fine)) (rw w at (i .asking .name)))
 
 -- and that of a Data
 data-name : (m : Bool) (l : List ℕ) (f : Fields) → IsData m l f → nameOf l ≡ bytesIn (val f 1)
 data-name m l f i =
     let w = i .fields in
-    name-of l (i .is) ∙ rw w (name-agrees dat data-naming (i .value) (rw w at (i .fine)) (rw w at (i .name)))
+    name-of l (i .is) ∙ rw w (data-finds (i .value) (rw w at (i .fine)) (rw w at (i .name)))
 
 module _ (k : Nacked) (m : Bool) (l : List ℕ) where
   -- the finder finds the Name of an Interest that is read

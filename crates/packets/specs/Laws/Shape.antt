@@ -14,23 +14,28 @@ use Rattle.laws.specs.Pick.{pick}
 use Rattle.laws.specs.Laws.Pick.{pick-ind}
 use Rattle.wire.specs.Element.{Elem, bad, elem, element, onward}
 use Rattle.wire.specs.Laws.Within.{element-less, value-bytes}
-use Rattle.wire.specs.Laws.Bytes.{Bytes, big-below}
+use Rattle.wire.specs.Bytes.{Bytes}
+use Rattle.wire.specs.Laws.Bytes.{big-below}
 use Rattle.wire.specs.Number.{isWhole}
+use Rattle.wire.specs.Verdict.{isMalformed, isUnsupported}
+use Rattle.wire.specs.Laws.Verdict.{said-fine}
 use Rattle.answers.specs.declared.Answer.{Answer}
 use Rattle.names.specs.declared.component.Counted.{Counted}
 use Rattle.names.specs.Name.{counted}
-use Rattle.grammar.specs.Table.{table, rowOf, fits, four, outer, interest, dat, meta, fragment, lp, nack}
+use Rattle.grammar.specs.Types.{interest, dat, metaInfo as meta, fragment, lpPacket as lp, nack}
+use Rattle.grammar.specs.Table.{table, rowOf, fits, four, outer}
 use Rattle.grammar.specs.declared.Row.{Row}
 use Rattle.grammar.specs.Walk.{Field, absent, here, Fields, walked}
 use Rattle.grammar.specs.Laws.Walk.{FieldIn, walked-in, field-bytes}
 use Rattle.grammar.specs.Laws.Table.{eachRow}
 use Rattle.grammar.specs.Laws.Fits.{Fitting, Fit, walked-fits, ruled, fitting-rule}
-use Rattle.packets.specs.declared.header.Nacked.{Nacked}
-use Rattle.packets.specs.Header.{val, bytesIn, missing, wholeNumber, Bare, Came, bare, nackedBy, fragmentRead, lpFields, lpRead, outerRead, headerRead}
-use Rattle.packets.specs.Header as header
+use Rattle.packethead.specs.declared.header.Nacked.{Nacked}
+use Rattle.packethead.specs.Header.{val, bytesIn, missing, wholeNumber, Bare, Came, bare, nackedBy, fragmentRead, lpFields, lpRead, outerRead, headerRead}
+use Rattle.packethead.specs.Header as header
 use Rattle.packets.specs.Bare.{Reading, refused, asks, brings, nacks, askedBy, sized, namedInterest, interestRead, namedData, dataRead, dataValue, dataUnless, kindRead, bareRead}
-use Rattle.packets.specs.Meaning.{askOf, meant, cameMeans, heard}
+use Rattle.packets.specs.Meaning.{askOf, leaving, meant, heardBare, cameMeans, heard}
 use Rattle.packets.specs.Meaning as said
+use Rattle.packets.specs.Well.{Well}
 
 -- ---- what is read of a packet's elements
 
@@ -55,18 +60,10 @@ module _ (l : List ℕ) {v : List ℕ} (short : length l ≤ 1500) where
   unfolding headerRead
   header-lp e = rw (le-ltb 1500 (length l) short, e)
 
--- a name that an Interest may have: one component to 16, in 255 bytes
-pub record Well (name : List ℕ) : Type 0 where
-  pub count : ℕ
-  pub reads : counted name ≡ Counted.Count count
-  pub some : 1 ≤ count
-  pub few : count ≤ 16
-  pub short : length name ≤ 255
-
 -- the elements of an Interest that is not refused: none is 5 or 6, Name and Nonce are there, and the name is one that an Interest may have
 pub record Asking (f : Fields) : Type 0 where
-  pub fine : f .said ≢ 5
-  pub known : f .said ≢ 6
+  pub fine : isMalformed (f .said) ≡ false
+  pub known : isUnsupported (f .said) ≡ false
   pub name : missing (val f 1) ≡ false
   pub nonce : missing (val f 5) ≡ false
   pub well : Well (bytesIn (val f 1))
@@ -76,16 +73,16 @@ pub asking-read : (k : Nacked) (f : Fields) → Asking f → interestRead k fals
 unfolding interestRead namedInterest sized pick
 asking-read k f a =
     let w = a .well in
-    let z : w .count ≢ 0 = λ e. omega (arith, w .some) in
+    let z : counted (bytesIn (val f 1)) .count ≢ 0 = λ e. omega (arith, w .some) in
     rw (
-      ne-eqb (f .said) 5 (a .fine),
+      a .fine,
       a .name,
       a .nonce,
-      w .reads,
-      ne-eqb (w .count) 0 z,
-      ne-eqb (f .said) 6 (a .known),
+      w .fine,
+      ne-eqb (counted (bytesIn (val f 1)) .count) 0 z,
+      a .known,
       le-ltb 255 (length (bytesIn (val f 1))) (w .short),
-      le-ltb 16 (w .count) (w .few),
+      le-ltb 16 (counted (bytesIn (val f 1)) .count) (w .few),
     )
 
 -- ---- what a packet that is read is made of
@@ -104,8 +101,9 @@ pub record IsData (m : Bool) (l : List ℕ) (f : Fields) : Type 0 where
   pub is : element l ≡ elem 0x06 value []
   pub fields : f ≡ walked dat value
   pub unmarked : m ≡ false
-  pub fine : f .said ≢ 5
+  pub fine : isMalformed (f .said) ≡ false
   pub name : missing (val f 1) ≡ false
+  pub short : length (bytesIn (val f 1)) ≤ 255
 
 -- what each reading says of the bytes, of the Nack that they came with, and of whether their header has an element that is 6
 abbrev Made : Nacked → Bool → List ℕ → Reading → Type 0
@@ -117,17 +115,18 @@ Made k m l (nacks n f) = (k ≡ Nacked.Reason n) × IsInterest m l f
 module _ (k : Nacked) (m : Bool) (l v : List ℕ) (f : Fields) where
   -- of an Interest whose elements are there, by what its name says
   named-interest-made : element l ≡ elem 0x05 v [] → f ≡ walked interest v
-      → f .said ≢ 5 → missing (val f 1) ≡ false → missing (val f 5) ≡ false
-      → (c : Counted) → counted (bytesIn (val f 1)) ≡ c → Made k m l (namedInterest k m f c)
+      → isMalformed (f .said) ≡ false → missing (val f 1) ≡ false → missing (val f 5) ≡ false
+      → Made k m l (namedInterest k m f (counted (bytesIn (val f 1))))
   unfolding namedInterest sized
-  named-interest-made i w a b d Counted.Malformed e = tt
-  named-interest-made i w a b d Counted.Unsupported e = tt
-  named-interest-made i w a b d (Counted.Count n) e =
-      pick-ind (Made k m l) (eqb n 0) _ _ (λ _. tt)
+  named-interest-made i w a b d =
+      let c : Counted = counted (bytesIn (val f 1)) in
+      pick-ind (Made k m l) (isMalformed (c .said)) _ _ (λ _. tt)
+      (λ p. pick-ind (Made k m l) (eqb (c .count) 0) _ _ (λ _. tt)
       (λ g. pick-ind (Made k m l) m _ _ (λ _. tt)
-      (λ u. pick-ind (Made k m l) (eqb (f .said) 6) _ _ (λ _. tt)
-      (λ h. pick-ind (Made k m l) (ltb 255 (length (bytesIn (val f 1)))) _ _ (λ _. tt)
-      (λ x. pick-ind (Made k m l) (ltb 16 n) _ _ (λ _. tt)
+      (λ u. pick-ind (Made k m l) (isUnsupported (f .said)) _ _ (λ _. tt)
+      (λ h. pick-ind (Made k m l) (isUnsupported (c .said)) _ _ (λ _. tt)
+      (λ q. pick-ind (Made k m l) (ltb 255 (length (bytesIn (val f 1)))) _ _ (λ _. tt)
+      (λ x. pick-ind (Made k m l) (ltb 16 (c .count)) _ _ (λ _. tt)
       (λ y. by k (record {
         value = v;
         is = i;
@@ -135,18 +134,17 @@ module _ (k : Nacked) (m : Bool) (l v : List ℕ) (f : Fields) where
         unmarked = u;
         asking = record {
           fine = a;
-          known = eqb-false (f .said) 6 h;
+          known = h;
           name = b;
           nonce = d;
           well = record {
-            count = n;
-            reads = e;
-            some = omega (arith, eqb-false n 0 g);
-            few = ltb-false 16 n y;
+            fine = said-fine (c .said) p q;
+            some = omega (arith, eqb-false (c .count) 0 g);
+            few = ltb-false 16 (c .count) y;
             short = ltb-false 255 (length (bytesIn (val f 1))) x;
           };
         };
-      }))))))
+      }))))))))
     where
       by : (k : Nacked) → IsInterest m l f → Made k m l (askedBy k f)
       by Nacked.No a = unfold askedBy in (refl, a)
@@ -156,33 +154,33 @@ module _ (k : Nacked) (m : Bool) (l v : List ℕ) (f : Fields) where
   interest-made : element l ≡ elem 0x05 v [] → f ≡ walked interest v → Made k m l (interestRead k m f)
   unfolding interestRead
   interest-made i w =
-      pick-ind (Made k m l) (eqb (f .said) 5) _ _ (λ _. tt)
+      pick-ind (Made k m l) (isMalformed (f .said)) _ _ (λ _. tt)
       (λ a. pick-ind (Made k m l) (missing (val f 1)) _ _ (λ _. tt)
       (λ b. pick-ind (Made k m l) (missing (val f 5)) _ _ (λ _. tt)
-      (λ c. named-interest-made i w (eqb-false (f .said) 5 a) b c (counted (bytesIn (val f 1))) refl)))
+      (λ c. named-interest-made i w a b c)))
 
   -- of a Data whose elements are there, by what its name says
-  named-data-made : k ≡ Nacked.No → element l ≡ elem 0x06 v [] → f ≡ walked dat v → f .said ≢ 5 → missing (val f 1) ≡ false
+  named-data-made : k ≡ Nacked.No → element l ≡ elem 0x06 v [] → f ≡ walked dat v → isMalformed (f .said) ≡ false → missing (val f 1) ≡ false
       → (g : Fields) (c : Counted) → Made k m l (namedData m f g c)
   unfolding namedData sized
-  named-data-made z i w a b g Counted.Malformed = tt
-  named-data-made z i w a b g Counted.Unsupported = tt
-  named-data-made z i w a b g (Counted.Count n) =
-      pick-ind (Made k m l) m _ _ (λ _. tt)
-      (λ u. pick-ind (Made k m l) (ltb 255 (length (bytesIn (val f 1)))) _ _ (λ _. tt)
-      (λ x. pick-ind (Made k m l) (ltb 16 n) _ _ (λ _. tt)
-      (λ y. (z, record { value = v; is = i; fields = w; unmarked = u; fine = a; name = b }))))
+  named-data-made z i w a b g c =
+      pick-ind (Made k m l) (isMalformed (c .said)) _ _ (λ _. tt)
+      (λ _. pick-ind (Made k m l) m _ _ (λ _. tt)
+      (λ u. pick-ind (Made k m l) (isUnsupported (c .said)) _ _ (λ _. tt)
+      (λ _. pick-ind (Made k m l) (ltb 255 (length (bytesIn (val f 1)))) _ _ (λ _. tt)
+      (λ x. pick-ind (Made k m l) (ltb 16 (c .count)) _ _ (λ _. tt)
+      (λ y. (z, record { value = v; is = i; fields = w; unmarked = u; fine = a; name = b; short = ltb-false 255 (length (bytesIn (val f 1))) x }))))))
 
   -- of a Data
   data-made : k ≡ Nacked.No → element l ≡ elem 0x06 v [] → f ≡ walked dat v → (g : Fields) → Made k m l (dataRead m f g)
   unfolding dataRead
   data-made z i w g =
-      pick-ind (Made k m l) (eqb (f .said) 5) _ _ (λ _. tt)
+      pick-ind (Made k m l) (isMalformed (f .said)) _ _ (λ _. tt)
       (λ a. pick-ind (Made k m l) (missing (val f 1)) _ _ (λ _. tt)
       (λ b. pick-ind (Made k m l) (missing (val f 4)) _ _ (λ _. tt)
       (λ c. pick-ind (Made k m l) (missing (val f 5)) _ _ (λ _. tt)
-      (λ d. pick-ind (Made k m l) (eqb (g .said) 5) _ _ (λ _. tt)
-      (λ e. named-data-made z i w (eqb-false (f .said) 5 a) b g (counted (bytesIn (val f 1))))))))
+      (λ d. pick-ind (Made k m l) (isMalformed (g .said)) _ _ (λ _. tt)
+      (λ e. named-data-made z i w a b g (counted (bytesIn (val f 1))))))))
 
 -- of a Data, which comes with no Nack
 unless-made : (k : Nacked) (m : Bool) (l v : List ℕ) → element l ≡ elem 0x06 v [] → Made k m l (dataUnless k (dataValue m v))
@@ -259,9 +257,9 @@ fragment-within n (here v r) k m h = h
 fields-within : (n : ℕ) (f g : Fields) → length (bytesIn (val f 2)) ≤ n → Within n (lpFields f g)
 unfolding lpFields
 fields-within n f g h =
-    pick-ind (Within n) (eqb (f .said) 5) _ _ (λ _. tt)
-    (λ _. pick-ind (Within n) (eqb (g .said) 5) _ _ (λ _. tt)
-    (λ _. fragment-within n (val f 2) (nackedBy (val f 1) (val g 1)) (eqb (f .said) 6) h))
+    pick-ind (Within n) (isMalformed (f .said)) _ _ (λ _. tt)
+    (λ _. pick-ind (Within n) (isMalformed (g .said)) _ _ (λ _. tt)
+    (λ _. fragment-within n (val f 2) (nackedBy (val f 1) (val g 1)) (isUnsupported (f .said)) h))
 
 -- of an LpPacket, since its Fragment lies within it
 lp-within : (v : List ℕ) → Within (length v) (lpRead v)
@@ -299,22 +297,71 @@ header-within l =
 pub bare-short : (l : List ℕ) {b : Bare} → headerRead l ≡ bare b → length (b .bytes) ≤ 1500
 bare-short l {b} e = let h : Within 1500 (bare b) = rw e at (header-within l) in h
 
+-- where a bare packet stands, it is bytes
+abbrev BareBytes : Came → Type 0
+BareBytes (header.refused a) = Unit {0}
+BareBytes (bare b) = Bytes (b .bytes)
+
+-- of a Fragment
+fragment-bytes : (v : List ℕ) (x : Field) (k : Nacked) (m : Bool) → FieldIn v x → Bytes v → BareBytes (fragmentRead x k m)
+unfolding fragmentRead
+fragment-bytes v absent k m h b = tt
+fragment-bytes v (here w j) k m h b = field-bytes h refl b
+
+-- of an LpPacket's elements
+fields-bytes : (v : List ℕ) (f g : Fields) → FieldIn v (val f 2) → Bytes v → BareBytes (lpFields f g)
+unfolding lpFields
+fields-bytes v f g h b =
+    pick-ind BareBytes (isMalformed (f .said)) _ _ (λ _. tt)
+    (λ _. pick-ind BareBytes (isMalformed (g .said)) _ _ (λ _. tt)
+    (λ _. fragment-bytes v (val f 2) (nackedBy (val f 1) (val g 1)) (isUnsupported (f .said)) h b))
+
+-- of an LpPacket
+lp-bytes : (v : List ℕ) → Bytes v → BareBytes (lpRead v)
+unfolding lpRead
+lp-bytes v b = fields-bytes v (walked lp v) (walked nack (bytesIn (val (walked lp v) 1))) (walked-in lp v 2) b
+
+-- of a packet as it came
+header-bytes : (l : List ℕ) → Bytes l → BareBytes (headerRead l)
+unfolding headerRead outerRead
+header-bytes l b = pick-ind BareBytes (ltb 1500 (length l)) _ _ (λ _. tt) (λ _. go (element l) refl)
+  where
+    go : (x : Elem) → element l ≡ x
+        → BareBytes (onward x (header.refused Answer.Malformed)
+        (λ t v r. pick (ltb 0 (length r)) (header.refused Answer.Malformed) (outerRead t v l)))
+    go bad e = tt
+    go (elem t v r) e =
+        pick-ind BareBytes (ltb 0 (length r)) _ _ (λ _. tt)
+        (λ _. pick-ind BareBytes (eqb (rowOf outer t table .order) 0) _ _ (λ _. tt)
+        (λ _. pick-ind BareBytes (eqb (rowOf outer t table .order) 3) _ _ (λ _. lp-bytes v (value-bytes l b e)) (λ _. b)))
+
+-- the bare packet in bytes is bytes
+pub bare-bytes : (l : List ℕ) → Bytes l → {b : Bare} → headerRead l ≡ bare b → Bytes (b .bytes)
+bare-bytes l h {b} e = let x : BareBytes (bare b) = rw e at (header-bytes l h) in x
+
 -- what a packet means is what its header says
 pub heard-is : (l : List ℕ) → heard l ≡ cameMeans (headerRead l)
 unfolding heard
 heard-is l = refl
 
 -- and so what the bare packet means that stands in it
-pub heard-bare : (l : List ℕ) {b : Bare} → headerRead l ≡ bare b → heard l ≡ meant (bareRead (b .nack) (b .marked) (b .bytes))
+pub heard-bare : (l : List ℕ) {b : Bare} → headerRead l ≡ bare b → heard l ≡ heardBare (b .nack) (b .marked) (b .bytes)
 unfolding cameMeans
 heard-bare l e = heard-is l ∙ ap cameMeans e
 
+-- what a bare packet means, by its elements
+pub bare-means : (k : Nacked) (m : Bool) (l : List ℕ) → heardBare k m l ≡ meant l (bareRead k m l)
+unfolding heardBare
+bare-means k m l = refl
+
 -- an Interest alone, of elements that are not refused, asks what they mean
 pub asking-heard : (l v : List ℕ) → length l ≤ 1500 → element l ≡ elem 0x05 v [] → Asking (walked interest v)
-    → heard l ≡ said.asks (askOf (walked interest v))
+    → heard l ≡ said.asks (askOf (walked interest v)) (leaving l (val (walked interest v) 7))
 unfolding askedBy meant
 asking-heard l v h e a =
-    heard-bare l (header-interest l h e) ∙ ap meant (bare-interest Nacked.No false l e ∙ asking-read Nacked.No (walked interest v) a)
+    heard-bare l (header-interest l h e)
+    ∙ bare-means Nacked.No false l
+    ∙ ap (meant l) (bare-interest Nacked.No false l e ∙ asking-read Nacked.No (walked interest v) a)
 
 -- ---- the nonce
 

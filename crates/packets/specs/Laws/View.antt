@@ -16,25 +16,24 @@ use Rattle.wire.specs.Number.{big, isWhole}
 use Rattle.wire.specs.Element.{elem, element}
 use Rattle.wire.specs.Laws.Within.{ElementWithin, element-within}
 use Rattle.grammar.specs.declared.Place.{Place}
-use Rattle.grammar.specs.Table.{table, fits, one, interest, dat}
+use Rattle.grammar.specs.Types.{interest, dat}
+use Rattle.grammar.specs.Table.{table, fits, one}
 use Rattle.grammar.specs.Laws.Table.{eachRow}
 use Rattle.grammar.specs.Laws.Fits.{Fitting, Fit, walked-fits, ruled, fitting-rule}
 use Rattle.grammar.specs.Walk.{Field, absent, here, Fields}
 use Rattle.grammar.specs.Places.Walk.{placeIn}
 use Rattle.grammar.specs.Laws.Walk.{FieldIn, walked-in, place-inside}
-use Rattle.packets.specs.declared.header.Nacked.{Nacked}
+use Rattle.packethead.specs.declared.header.Nacked.{Nacked}
 use Rattle.packets.specs.declared.bare.Hop.{Hop}
-use Rattle.packets.specs.Header.{val, bytesIn, wholeNumber}
-use Rattle.packets.specs.Places.Header.{partAt}
+use Rattle.packethead.specs.Header.{val, bytesIn, wholeNumber}
+use Rattle.packethead.specs.Places.Header.{partAt}
 use Rattle.packets.specs.Bare.{Reading, bareRead}
 use Rattle.packets.specs.Places.Bare.{hopIn, interestIn, packetIn}
 use Rattle.packets.specs.Bare as bare
-use Rattle.packets.specs.Meaning.{refused, asks, brings, nacks, hopOf, askOf, offerOf, meant}
-use Rattle.packets.specs.Laws.Part.{part-field}
+use Rattle.packets.specs.Meaning.{refused, asks, brings, nacks, hopOf, askOf, offerOf, leaving, meant, heardBare}
+use Rattle.packethead.specs.Laws.Part.{part-field}
 use Rattle.packets.specs.Laws.Shape.{IsInterest, IsData, asks-made, brings-made, nacks-made}
-use Rattle.packets.specs.Places.View.{hopSeen, askSeen, seen}
-
--- ---- what is seen of the code's answer in the packet's bytes l
+use Rattle.packets.specs.Places.View.{hopSeen, askSeen, lowered, seen}
 
 -- ---- a field in the whole packet
 
@@ -138,6 +137,12 @@ data-name-at {m} {l} i = rw (i .fields) (field-at (last-in l (i .is) (walked-in 
 
 -- ---- what the code's answer means
 
+-- an Interest leaves as its HopLimit's place says
+pub lowered-leaves : (l : List ℕ) (x : Field) → lowered l (hopIn (length l) x) ≡ leaving l x
+unfolding lowered hopIn leaving
+lowered-leaves l absent = refl
+lowered-leaves l (here v k) = refl
+
 module _ (k : Nacked) (m : Bool) (l : List ℕ) where
   -- the bytes at the place of the name of an Interest that is read are its name
   pub asks-name-at : {f : Fields} → bareRead k m l ≡ bare.asks f → BytesAt l (interestIn (length l) f .name) (askOf f .name)
@@ -163,12 +168,12 @@ module _ (k : Nacked) (m : Bool) (l : List ℕ) where
   nacks-hop-at e = interest-hop-at (nacks-made k m l e .1)
 
   -- what is seen of the code's answer is what the packet means
-  pub seen-meant : seen l (packetIn (length l) (bareRead k m l)) ≡ meant (bareRead k m l)
-  unfolding seen packetIn meant offerOf
+  pub seen-meant : seen l (packetIn (length l) (bareRead k m l)) ≡ heardBare k m l
+  unfolding seen packetIn interestIn heardBare meant offerOf
   seen-meant = go (bareRead k m l) refl
     where
-      go : (r : Reading) → bareRead k m l ≡ r → seen l (packetIn (length l) r) ≡ meant r
+      go : (r : Reading) → bareRead k m l ≡ r → seen l (packetIn (length l) r) ≡ meant l r
       go (bare.refused a) e = refl
-      go (bare.asks f) e = ap asks (interest-seen (asks-made k m l e .1))
+      go (bare.asks f) e = rw (interest-seen (asks-made k m l e .1), lowered-leaves l (val f 7))
       go (bare.brings f g) e = rw (data-name-at (brings-made k m l e .1) .bytes)
       go (bare.nacks n f) e = ap (nacks n) (interest-seen (nacks-made k m l e .1))

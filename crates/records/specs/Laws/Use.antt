@@ -2,14 +2,14 @@
 -- Assumes nothing.
 use Prim.Native.Nat.{ℕ, _+_, _≤_}
 use mathlib.Core.Path.{_≡_, refl, _∙_}
-use mathlib.Core.Bool.{Bool, true, false}
+use mathlib.Core.Bool.{Bool, true, false, not}
 use mathlib.Core.List.{List, [], _∷_, _++_}
 use lib.ListN.{length}
 use native.Mathlib.Omega.{arith}
 use Rattle.laws.specs.Pick.{pick}
-use Rattle.records.specs.Class.{Class, alarm, monitoring, bulk, noClass}
+use Rattle.records.specs.Class.{Class, alarm, monitoring, bulk, noClass, classNumber, isClass, isOf}
 use Rattle.records.specs.Slots.{only}
-use Rattle.records.specs.Entry.{Entry, usedBy, isAlarm, isMonitoring, isBulk, isOther, roomTaken}
+use Rattle.records.specs.Entry.{Entry, usedBy, takenBy, roomTaken}
 
 module _ (p : Class → Bool) where
   -- an entry more is one more for what holds of its class
@@ -34,20 +34,35 @@ module _ (p : Class → Bool) where
       go k true = refl
       go k false = omega arith
 
+-- whether it is none of the three
+abbrev pub noneOf : Class → Bool
+noneOf c = not (isClass c)
+
+-- a class is one of the three, or none
+class-one : (c : Class) → pick (isOf alarm c) 1 0 + pick (isOf monitoring c) 1 0 + pick (isOf bulk c) 1 0 + pick (noneOf c) 1 0 ≡ 1
+unfolding isOf isClass classNumber pick
+class-one alarm = refl
+class-one monitoring = refl
+class-one bulk = refl
+class-one (noClass n) = refl
+
 -- each entry has one of the three classes, or none
-pub used-all : (es : List Entry) → usedBy isAlarm es + usedBy isMonitoring es + usedBy isBulk es + usedBy isOther es ≡ length es
-unfolding usedBy only pick isAlarm isMonitoring isBulk isOther
+pub used-all : (es : List Entry)
+    → usedBy (isOf alarm) es + usedBy (isOf monitoring) es + usedBy (isOf bulk) es + usedBy noneOf es ≡ length es
+unfolding usedBy only
 used-all [] = refl
 used-all (e ∷ es) =
-    omega (arith, used-more isAlarm e es, used-more isMonitoring e es, used-more isBulk e es, used-more isOther e es, one (e .cls), used-all es)
-  where
-    one : (c : Class) → pick (isAlarm c) 1 0 + pick (isMonitoring c) 1 0 + pick (isBulk c) 1 0 + pick (isOther c) 1 0 ≡ 1
-    one alarm = refl
-    one monitoring = refl
-    one bulk = refl
-    one (noClass n) = refl
+    omega (
+      arith,
+      used-more (isOf alarm) e es,
+      used-more (isOf monitoring) e es,
+      used-more (isOf bulk) e es,
+      used-more noneOf e es,
+      class-one (e .cls),
+      used-all es,
+    )
 
 -- there are no more entries than the room that they take
 pub entries-most : (es : List Entry) → length es ≤ roomTaken es
-unfolding roomTaken
+unfolding roomTaken takenBy
 entries-most es = omega (arith, used-all es)

@@ -2,25 +2,32 @@
 -- Assumes nothing.
 use borrow.Author.Needs.{needs}
 use native.Mathlib.Omega.{arith}
-use mathlib.Core.Path.{sym, _∙_}
+use mathlib.Core.Path.{sym}
 use mathlib.Core.Option.{some}
-use Rattle.faces.specs.Set.{mostFaces}
-use Rattle.records.specs.Laws.Face.{face-yes, face-no}
+use Rattle.sizes.specs.Sizes.{mostFaces}
+use Rattle.records.specs.Laws.Face.{face-no}
+use Rattle.laws.specs.Laws.Tab.{onAt-out}
 use Rattle.records.specs.Route.{withHop}
-use Rattle.routes.specs.Places.View.{routeAt, view-length, view-on}
-use Rattle.routes.specs.Laws.Hop.{hop-here, hop-none, hop-out}
+use Rattle.routes.specs.Places.View.{routeAt, place-is, view-length, view-kept, view-on}
+use Rattle.routes.specs.Laws.Hop.{row-past}
 use Rattle.routes.proofs.add_hop.Statement.{statement}
 use Rattle.routes.proofs.add_hop.Tie as tie
 
 returns : tie.Need-returns
+unfolding routeAt
 returns c =
     let a = c .before .args in
-    sym (hop-none _ _ _ _ _ (face-no mostFaces (a .face) .1 (λ h. omega arith)))
+    rw place-is
+    (view-kept mostFaces (a .names .now) (a .heads .now) (a .costs .now) (a .routes) (a .route .at) (withHop (a .face) (some (a .cost)))
+    (row-past mostFaces (a .face) _ _ _ _ (face-no mostFaces (a .face) .1 (λ h. omega arith))))
 
 returns-2 : tie.Need-returns-2
+unfolding routeAt
 returns-2 c =
     let a = c .before .before .args in
-    sym (hop-none _ _ _ _ _ (face-no mostFaces (a .face) .1 (λ h. omega arith)))
+    rw place-is
+    (view-kept mostFaces (a .names .now) (a .heads .now) (a .costs .now) (a .routes) (a .route .at) (withHop (a .face) (some (a .cost)))
+    (row-past mostFaces (a .face) _ _ _ _ (face-no mostFaces (a .face) .1 (λ h. omega arith))))
 
 clamped-requires : tie.Need-clamped-requires
 clamped-requires c κs = search needs
@@ -52,14 +59,16 @@ returns-3 c =
     let a = c .before .before .before .before .before .before .before .before .before .before .before .args in
     let rows = c .before .before .before .before .before .has-all-heads .ensures in
     let all = c .before .before .before .has-all-costs .ensures in
-    view-on mostFaces (a .names .now) (a .heads .now) (a .costs .now) (a .count) (a .i) _ _ (withHop (a .face) (some (a .cost))) (omega arith) (omega arith)
-    (c .put-hop .ensures _)
-    ∙ sym (hop-here _ _ _ _ _ (face-yes mostFaces (a .face) .1 (omega arith, omega arith)))
+    rw place-is
+    (view-on mostFaces (a .names .now) (a .heads .now) (a .costs .now) (a .routes) (a .route .at) _ _
+    (withHop (a .face) (some (a .cost))) (omega arith) (omega arith)
+    (c .put-hop .ensures _))
 
 returns-4 : tie.Need-returns-4
 returns-4 c =
     let a = c .before .before .before .before .args in
-    sym (hop-out _ _ _ _ _ (omega (arith, view-length mostFaces (a .names .now) (a .heads .now) (a .costs .now) (a .count))))
+    rw place-is
+    (sym (onAt-out _ _ _ (omega (arith, view-length mostFaces (a .names .now) (a .heads .now) (a .costs .now) (a .routes)))))
 
 pub add-hop-spec : {M : Type 1} → statement M
 add-hop-spec =

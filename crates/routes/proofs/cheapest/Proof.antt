@@ -2,9 +2,9 @@
 -- Assumes nothing.
 use borrow.Author.Needs.{needs}
 use native.Mathlib.Omega.{arith}
-use Rattle.faces.specs.Set.{mostFaces}
+use Rattle.sizes.specs.Sizes.{mostFaces}
 use Rattle.records.specs.Slots.{given}
-use Rattle.routes.specs.Places.View.{routeAt, view-place, view-none}
+use Rattle.routes.specs.Places.View.{routeAt, place-is, view-place, view-none}
 use Rattle.routes.specs.Laws.Hop.{row-cheapest}
 use Rattle.routes.proofs.cheapest.Statement.{statement}
 use Rattle.routes.proofs.cheapest.Tie as tie
@@ -37,14 +37,14 @@ returns : tie.Need-returns
 unfolding given routeAt
 returns c =
     let a = c .before .before .before .before .before .before .args in
-    let here = view-place mostFaces (a .names .now) (a .heads .now) (a .costs .now) (a .count) (a .i) (omega arith) in
-    rw (here, row-cheapest mostFaces (a .set), ← (c .before .before .common .ensures)) (c .least .ensures)
+    let here = view-place mostFaces (a .names .now) (a .heads .now) (a .costs .now) (a .routes) (a .route .at) (omega arith) in
+    rw (place-is, here, row-cheapest mostFaces (a .set), ← (c .before .before .common .ensures)) (c .least .ensures)
 
 returns-2 : tie.Need-returns-2
 unfolding given
 returns-2 c =
     let a = c .before .before .args in
-    rw (view-none mostFaces (a .names .now) (a .heads .now) (a .costs .now) (a .count) (a .i) (omega arith))
+    rw (place-is, view-none mostFaces (a .names .now) (a .heads .now) (a .costs .now) (a .routes) (a .route .at) (omega arith))
 
 pub cheapest-spec : {M : Type 1} → statement M
 cheapest-spec =

@@ -2,9 +2,9 @@
 -- Assumes nothing.
 use borrow.Author.Needs.{needs}
 use native.Mathlib.Omega.{arith}
-use Rattle.faces.specs.Set.{mostFaces}
+use Rattle.sizes.specs.Sizes.{mostFaces}
 use Rattle.records.specs.Slots.{given}
-use Rattle.routes.specs.Places.View.{routeAt, view-place, view-none}
+use Rattle.routes.specs.Places.View.{routeAt, place-is, view-place, view-none}
 use Rattle.routes.specs.Laws.Setting.{row-word}
 use Rattle.routes.proofs.class_of.Statement.{statement}
 use Rattle.routes.proofs.class_of.Tie as tie
@@ -25,13 +25,13 @@ returns : tie.Need-returns
 unfolding routeAt given
 returns c =
     let a = c .before .before .before .args in
-    rw (view-place mostFaces (a .names .now) (a .heads .now) (a .costs .now) (a .count) (a .i) (omega arith), row-word)
+    rw (place-is, view-place mostFaces (a .names .now) (a .heads .now) (a .costs .now) (a .routes) (a .route .at) (omega arith), row-word)
 
 returns-2 : tie.Need-returns-2
 unfolding given
 returns-2 c =
     let a = c .before .before .args in
-    rw (view-none mostFaces (a .names .now) (a .heads .now) (a .costs .now) (a .count) (a .i) (omega arith))
+    rw (place-is, view-none mostFaces (a .names .now) (a .heads .now) (a .costs .now) (a .routes) (a .route .at) (omega arith))
 
 pub class-of-spec : {M : Type 1} → statement M
 class-of-spec =

@@ -2,13 +2,11 @@
 -- Assumes nothing.
 use borrow.Author.Needs.{needs}
 use native.Mathlib.Omega.{arith}
-use mathlib.Core.Path.{sym, _∙_}
-use mathlib.Core.Bool.{and-false}
-use Rattle.faces.specs.Set.{mostFaces}
-use Rattle.records.specs.Face.{isFace}
+use mathlib.Core.Path.{_∙_}
+use Rattle.sizes.specs.Sizes.{mostFaces}
 use Rattle.records.specs.Route.{hopAt}
 use Rattle.records.specs.Slots.{given, isSome}
-use Rattle.routes.specs.Places.View.{routeAt, view-place, view-none}
+use Rattle.routes.specs.Places.View.{routeAt, place-is, view-place, view-none}
 use Rattle.routes.specs.Laws.Hop.{row-has}
 use Rattle.routes.proofs.has_hop.Statement.{statement}
 use Rattle.routes.proofs.has_hop.Tie as tie
@@ -32,13 +30,17 @@ returns : tie.Need-returns
 unfolding hopAt given routeAt
 returns c =
     let a = c .before .before .before .before .args in
-    c .has .ensures ∙ rw (view-place mostFaces (a .names .now) (a .heads .now) (a .costs .now) (a .count) (a .i) (omega arith)) (row-has mostFaces (a .face) _ _ _)
+    c .has .ensures ∙ rw (
+      place-is,
+      view-place mostFaces (a .names .now) (a .heads .now) (a .costs .now) (a .routes) (a .route .at)
+          (omega arith),
+    ) (row-has mostFaces (a .face) _ _ _)
 
 returns-2 : tie.Need-returns-2
 unfolding hopAt given isSome
 returns-2 c =
     let a = c .before .before .args in
-    rw (view-none mostFaces (a .names .now) (a .heads .now) (a .costs .now) (a .count) (a .i) (omega arith)) (sym (and-false (isFace mostFaces (a .face))))
+    rw (place-is, view-none mostFaces (a .names .now) (a .heads .now) (a .costs .now) (a .routes) (a .route .at) (omega arith))
 
 pub has-hop-spec : {M : Type 1} → statement M
 has-hop-spec =

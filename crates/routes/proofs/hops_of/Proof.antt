@@ -3,9 +3,9 @@
 use borrow.Author.Needs.{needs}
 use native.Mathlib.Omega.{arith}
 use mathlib.Core.Path.{sym, _∙_}
-use Rattle.faces.specs.Set.{mostFaces}
+use Rattle.sizes.specs.Sizes.{mostFaces}
 use Rattle.records.specs.Slots.{given}
-use Rattle.routes.specs.Places.View.{routeAt, view-place, view-none}
+use Rattle.routes.specs.Places.View.{routeAt, place-is, view-place, view-none}
 use Rattle.routes.specs.Laws.Hop.{row-hops}
 use Rattle.routes.proofs.hops_of.Statement.{statement}
 use Rattle.routes.proofs.hops_of.Tie as tie
@@ -29,13 +29,14 @@ returns : tie.Need-returns
 unfolding given routeAt
 returns c =
     let a = c .before .before .before .before .args in
-    rw (view-place mostFaces (a .names .now) (a .heads .now) (a .costs .now) (a .count) (a .i) (omega arith)) (c .members .ensures ∙ sym (row-hops mostFaces _ _ _))
+    rw (place-is, view-place mostFaces (a .names .now) (a .heads .now) (a .costs .now) (a .routes) (a .route .at) (omega arith))
+    (c .members .ensures ∙ sym (row-hops mostFaces _ _ _))
 
 returns-2 : tie.Need-returns-2
 unfolding given
 returns-2 c =
     let a = c .before .before .args in
-    rw (view-none mostFaces (a .names .now) (a .heads .now) (a .costs .now) (a .count) (a .i) (omega arith))
+    rw (place-is, view-none mostFaces (a .names .now) (a .heads .now) (a .costs .now) (a .routes) (a .route .at) (omega arith))
 
 pub hops-of-spec : {M : Type 1} → statement M
 hops-of-spec =

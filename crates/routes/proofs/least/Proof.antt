@@ -4,7 +4,8 @@ use borrow.Author.Needs.{needs}
 use native.Mathlib.Omega.{arith}
 use lib.ListN.{getD}
 use Rattle.records.specs.Slots.{given}
-use Rattle.faces.specs.Set.{lowestOf, mostFaces}
+use Rattle.sizes.specs.Sizes.{mostFaces}
+use Rattle.faces.specs.Set.{lowestFace}
 use Rattle.faces.specs.Laws.Slot.{lowest-less}
 use Rattle.routes.specs.Laws.Hop.{Least, least-none, least-first, least-lower, least-stays, least-end}
 use Rattle.routes.proofs.least.Statement.{statement}
@@ -26,14 +27,14 @@ returns c =
     rw (least-none mostFaces (omega arith) (λ i. getD (a .row .now) i 0) (a .set) _ (c .before .lowest .ensures) (omega arith))
 
 sub-cost : tie.Need-sub-cost Inv-loop μ-loop
-unfolding lowestOf
+unfolding lowestFace
 sub-cost c = omega arith
 
 mul-cost : tie.Need-mul-cost Inv-loop μ-loop
 mul-cost c = search needs
 
 element-copy-out-cost : tie.Need-element-copy-out-cost Inv-loop μ-loop
-unfolding lowestOf
+unfolding lowestFace
 element-copy-out-cost c = search needs
 
 remove-requires : tie.Need-remove-requires Inv-loop μ-loop
@@ -58,20 +59,21 @@ remove-requires-2 : tie.Need-remove-requires-2 Inv-loop μ-loop
 remove-requires-2 c κs = search needs
 
 sub-next : tie.Need-sub-next Inv-loop μ-loop
-unfolding lowestOf
+unfolding lowestFace
 sub-next c = omega arith
 
 mul-next : tie.Need-mul-next Inv-loop μ-loop
 mul-next c = search needs
 
 element-copy-out-next : tie.Need-element-copy-out-next Inv-loop μ-loop
-unfolding lowestOf
+unfolding lowestFace
 element-copy-out-next c = search needs
 
 loop-less : tie.Need-loop-less Inv-loop μ-loop
 loop-less c =
     let low = c .before .before .before .before .lowest2 .ensures in
-    rw (c .before .before .remove2 .ensures) (lowest-less mostFaces (c .before .before .before .before .before .loop .left) _ (omega arith) low (omega arith))
+    rw (c .before .before .remove2 .ensures) (lowest-less mostFaces (c .before .before .before .before .before .loop .left) _
+    (omega arith) low (omega arith))
 
 loop-again : tie.Need-loop-again Inv-loop μ-loop
 loop-again c =
@@ -84,7 +86,8 @@ loop-again c =
 loop-less-2 : tie.Need-loop-less-2 Inv-loop μ-loop
 loop-less-2 c =
     let low = c .before .before .before .before .lowest2 .ensures in
-    rw (c .before .before .remove2 .ensures) (lowest-less mostFaces (c .before .before .before .before .before .loop .left) _ (omega arith) low (omega arith))
+    rw (c .before .before .remove2 .ensures) (lowest-less mostFaces (c .before .before .before .before .before .loop .left) _
+    (omega arith) low (omega arith))
 
 loop-again-2 : tie.Need-loop-again-2 Inv-loop μ-loop
 loop-again-2 c =

@@ -2,20 +2,21 @@
 -- Assumes nothing.
 use borrow.Author.Needs.{needs}
 use native.Mathlib.Omega.{arith}
-use mathlib.Core.Path.{sym, _∙_}
+use mathlib.Core.Path.{sym, ap, _∙_}
 use Prim.Native.Nat.{_-_, _≤_}
-use Rattle.faces.specs.Set.{mostFaces}
-use Rattle.routes.specs.Places.View.{view, routeAt, routeRow, view-drop, view-end}
+use Rattle.sizes.specs.Sizes.{mostFaces}
+use Rattle.routes.specs.Places.View.{view, routeAt, routeRow, place-is, view-cut, view-drop, view-end}
+use Rattle.routes.specs.Operations.{longestAt}
 use Rattle.routes.specs.Laws.Longest.{Best, best-none, best-all, best-here, best-short, best-apart}
 use Rattle.routes.proofs.longest.Statement.{statement}
 use Rattle.routes.proofs.longest.Tie as tie
 
 abbrev Inv-loop : tie.InvT-loop
-Inv-loop names heads costs count name n best₀ most₀ i₀ best most i =
-    (i ≤ n) × Best name (view mostFaces names heads costs count) i best most
+Inv-loop names heads costs name n best₀ most₀ i₀ best most i =
+    (i ≤ n) × Best name (view names heads costs (record { count = n })) i best most
 
 abbrev μ-loop : tie.MeasureT-loop
-μ-loop names heads costs count name n best₀ most₀ i₀ best most i = i
+μ-loop names heads costs name n best₀ most₀ i₀ best most i = i
 
 clamped-requires : tie.Need-clamped-requires Inv-loop μ-loop
 clamped-requires c κs = search needs
@@ -23,7 +24,7 @@ clamped-requires c κs = search needs
 loop-holds : tie.Need-loop-holds Inv-loop μ-loop
 loop-holds c =
     let a = c .before .before .args in
-    (omega arith, best-none _ _ _ (view-end mostFaces (a .names .now) (a .heads .now) (a .costs .now) (a .count) (c .clamped .result) (omega arith)))
+    (omega arith, best-none _ _ _ (view-end mostFaces (a .names .now) (a .heads .now) (a .costs .now) _ (c .clamped .result) (omega arith)))
 
 sub-i : tie.Need-sub-i Inv-loop μ-loop
 sub-i c = search needs
@@ -57,7 +58,8 @@ unfolding routeAt routeRow
 loop-again c =
     let l = c .before .before .before .before .before .before .before .before .loop in
     let a = c .before .before .before .before .before .before .before .before .before .before .before .args in
-    let here = view-drop mostFaces (a .names .now) (a .heads .now) (a .costs .now) (a .count) (l .i - 1) (omega arith) in (
+    let n = c .before .before .before .before .before .before .before .before .before .clamped .result in
+    let here = view-drop mostFaces (a .names .now) (a .heads .now) (a .costs .now) (record { count = n }) (l .i - 1) (omega arith) in (
       omega arith,
       best-here _ _ _ _ _ _ _ (omega arith) here (c .before .before .before .part .ensures) (l .inv .1) (omega arith)
           (sym (c .before .is-prefix .ensures) ∙ c .if2 .taken),
@@ -71,7 +73,8 @@ unfolding routeAt routeRow
 loop-again-2 c =
     let l = c .before .before .before .before .before .before .before .before .loop in
     let a = c .before .before .before .before .before .before .before .before .before .before .before .args in
-    let here = view-drop mostFaces (a .names .now) (a .heads .now) (a .costs .now) (a .count) (l .i - 1) (omega arith) in (
+    let n = c .before .before .before .before .before .before .before .before .before .clamped .result in
+    let here = view-drop mostFaces (a .names .now) (a .heads .now) (a .costs .now) (record { count = n }) (l .i - 1) (omega arith) in (
       omega arith,
       best-apart _ _ _ _ _ _ _ (omega arith) here (c .before .before .before .part .ensures) (l .inv .1)
           (sym (c .before .is-prefix .ensures) ∙ c .if2 .left),
@@ -85,11 +88,17 @@ unfolding routeAt routeRow
 loop-again-3 c =
     let l = c .before .before .before .before .before .before .loop in
     let a = c .before .before .before .before .before .before .before .before .before .args in
-    let here = view-drop mostFaces (a .names .now) (a .heads .now) (a .costs .now) (a .count) (l .i - 1) (omega arith) in
+    let n = c .before .before .before .before .before .before .before .clamped .result in
+    let here = view-drop mostFaces (a .names .now) (a .heads .now) (a .costs .now) (record { count = n }) (l .i - 1) (omega arith) in
     (omega arith, best-short _ _ _ _ _ _ _ (omega arith) here (c .before .part .ensures) (l .inv .1) (omega arith))
 
 returns : tie.Need-returns Inv-loop μ-loop
-returns c = best-all _ _ _ _ _ (c .before .loop .inv .1) (omega arith)
+returns c =
+    let a = c .before .before .before .before .args in
+    let n = c .before .before .clamped in
+    place-is _ _ _ _ _
+    ∙ best-all _ _ _ _ _ (c .before .loop .inv .1) (omega arith)
+    ∙ ap (longestAt (a .name .now)) (view-cut mostFaces (a .names .now) (a .heads .now) (a .costs .now) (a .routes) _ (n .ensures))
 
 pub longest-spec : {M : Type 1} → statement M
 longest-spec =

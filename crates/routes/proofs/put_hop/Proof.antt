@@ -4,7 +4,7 @@ use borrow.Author.Needs.{needs}
 use native.Mathlib.Omega.{arith}
 use Prim.Native.Nat.{_-_}
 use lib.Seq.{getD-set-same, getD-set-other}
-use Rattle.faces.specs.Set.{mostFaces}
+use Rattle.sizes.specs.Sizes.{mostFaces}
 use Rattle.records.specs.Laws.Face.{face-yes}
 use Rattle.routes.specs.Laws.Hop.{row-put}
 use Rattle.routes.proofs.put_hop.Statement.{statement}

@@ -5,23 +5,23 @@ use native.Mathlib.Omega.{arith}
 use mathlib.Core.Path.{_≡_, refl, sym, _∙_}
 use Prim.Native.Nat.{_+_, _-_, _≤_}
 use mathlib.Core.List.{[]}
-use Rattle.faces.specs.Set.{mostFaces}
+use Rattle.sizes.specs.Sizes.{mostFaces}
 use Rattle.laws.specs.Places.Loop.{turns}
 use Rattle.laws.specs.Laws.Loop.{turns-turn, turns-end}
 use Rattle.laws.specs.Places.Rows.{down}
 use Rattle.laws.specs.Laws.Tab.{without-out}
-use Rattle.routes.specs.Places.View.{view-length, view-cut, view-without}
+use Rattle.routes.specs.Places.View.{place-is, view-length, view-cut, view-state, view-without}
 use Rattle.routes.proofs.remove.Statement.{statement}
 use Rattle.routes.proofs.remove.Tie as tie
 
 abbrev Inv-loop : tie.InvT-loop
-Inv-loop names₀ heads₀ costs₀ count i n k₀ names heads costs k =
+Inv-loop names₀ heads₀ costs₀ n i k₀ names heads costs k =
     (i + 1 ≤ k) × (k ≤ n) × (turns (down []) (i + 1) (n - (i + 1)) names₀ ≡ turns (down []) k (n - k) names)
     × (turns (down []) (i + 1) (n - (i + 1)) heads₀ ≡ turns (down []) k (n - k) heads)
     × (turns (down []) (i + 1) (n - (i + 1)) costs₀ ≡ turns (down []) k (n - k) costs)
 
 abbrev μ-loop : tie.MeasureT-loop
-μ-loop names₀ heads₀ costs₀ count i n k₀ names heads costs k = n - k
+μ-loop names₀ heads₀ costs₀ n i k₀ names heads costs k = n - k
 
 clamped-requires : tie.Need-clamped-requires Inv-loop μ-loop
 clamped-requires c κs = search needs
@@ -29,8 +29,11 @@ clamped-requires c κs = search needs
 returns : tie.Need-returns Inv-loop μ-loop
 returns c =
     let a = c .before .before .args in
-    let len = view-length mostFaces (a .names .now) (a .heads .now) (a .costs .now) (a .count) in
-    view-cut mostFaces _ _ _ _ _ (c .before .clamped .ensures) ∙ sym (without-out _ _ (omega arith))
+    let len = view-length mostFaces (a .names .now) (a .heads .now) (a .costs .now) (a .routes) in
+    let n = c .before .clamped in (
+      view-cut mostFaces _ _ _ _ _ (n .ensures) ∙ rw place-is (sym (without-out _ _ (omega arith))),
+      view-state mostFaces (a .names .now) (a .heads .now) (a .costs .now) _ (omega arith),
+    )
 
 has-all-names-requires : tie.Need-has-all-names-requires Inv-loop μ-loop
 has-all-names-requires c κs = search needs
@@ -99,18 +102,21 @@ loop-again c =
     let t = c .before .before .before .loop-test .taken in
     (omega arith, omega arith, l .inv .2 ∙ turns-turn _ _ _ _ t, l .inv .3 ∙ turns-turn _ _ _ _ t, l .inv .4 ∙ turns-turn _ _ _ _ t)
 
-sub-result : tie.Need-sub-result Inv-loop μ-loop
-sub-result c = search needs
+sub-t35 : tie.Need-sub-t35 Inv-loop μ-loop
+sub-t35 c = search needs
 
 returns-2 : tie.Need-returns-2 Inv-loop μ-loop
 returns-2 c =
     let a = c .before .before .before .before .before .before .before .before .before .before .args in
     let l = c .before .loop in
     let t = c .loop-test .left in
-    let m = c .before .before .before .before .before .before .before .before .before .clamped in
-    rw (l .inv .2 ∙ turns-end _ _ _ _ t, l .inv .3 ∙ turns-end _ _ _ _ t, l .inv .4 ∙ turns-end _ _ _ _ t)
-    at (view-without mostFaces (a .names .now) (a .heads .now) (a .costs .now) (a .count) (a .i) (m .result) (sym (m .ensures))
-    (omega arith) (omega arith) (omega arith) (omega arith))
+    let m = c .before .before .before .before .before .before .before .before .before .clamped in (
+      rw place-is (rw (l .inv .2 ∙ turns-end _ _ _ _ t, l .inv .3 ∙ turns-end _ _ _ _ t, l .inv .4 ∙ turns-end _ _ _ _ t)
+          at (view-without mostFaces (a .names .now) (a .heads .now) (a .costs .now) (a .routes) (a .route .at) (m .result)
+          (sym (m .ensures))
+          (omega arith) (omega arith) (omega arith) (omega arith))),
+      view-state mostFaces _ _ _ _ (omega arith),
+    )
 
 pub remove-spec : {M : Type 1} → statement M
 remove-spec =
@@ -141,5 +147,5 @@ remove-spec =
     add-k-2
     loop-less
     loop-again
-    sub-result
+    sub-t35
     returns-2)

@@ -13,11 +13,8 @@ use Rattle.laws.specs.Pick.{pick}
 use Rattle.names.specs.Name.{prefixOf}
 use Rattle.records.specs.Slots.{given, atPlace}
 use Rattle.records.specs.Route.{Route, longer, longest}
+use Rattle.routes.specs.Places.Longest.{reach}
 use Rattle.routes.specs.Operations.{isLongest, longestAt}
-
--- the length of the prefix that was found, 0 where none was
-unfoldable pub reach : Option Route → ℕ
-reach o = given 0 (λ r. length (r .name)) o
 
 -- a route is the longest where what was found after it reaches no further
 longest-reach : (r : Route) (o : Option Route) → isLongest r o ≡ leb (reach o) (length (r .name))

@@ -3,8 +3,7 @@
 use Prim.Native.Nat.{ℕ}
 use mathlib.Core.Option.{Option}
 use Rattle.faces.specs.Slots.{slotsOf}
-use Rattle.records.specs.Slots.{Held, held}
-use Rattle.records.specs.Route.{leastBy}
+use Rattle.records.specs.Slots.{Held, held, leastBy}
 
 -- the least that is kept for the faces of a set
 unfoldable pub leastOf : ℕ → (ℕ → ℕ) → ℕ → Option (Held ℕ)

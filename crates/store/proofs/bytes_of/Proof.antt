@@ -2,7 +2,7 @@
 use borrow.Author.Needs.{needs}
 use native.Mathlib.Omega.{arith}
 use Rattle.records.specs.Slots.{given}
-use Rattle.store.specs.Places.View.{storedAt, storedOf, dataOf, view-at, view-past}
+use Rattle.store.specs.Places.View.{storedAt, storedOf, dataOf, place-is, view-at, view-past}
 use Rattle.store.proofs.bytes_of.Statement.{statement}
 use Rattle.store.proofs.bytes_of.Tie as tie
 
@@ -38,14 +38,14 @@ unfolding given storedAt storedOf dataOf
 returns c =
     let b = c .before .before .before .before .before in
     let a = b .before .args in
-    rw (view-at (a .packets .now) (a .heads .now) (a .count) (a .i) (omega arith)) (c .part .ensures)
+    rw (place-is, view-at (a .packets .now) (a .heads .now) (a .store) (a .taken .at) (omega arith)) (c .part .ensures)
 
 returns-2 : tie.Need-returns-2
 unfolding given
 returns-2 c =
     let b = c .before .before .before .before in
     let a = b .before .args in
-    rw (view-past (a .packets .now) (a .heads .now) (a .count) (a .i) (omega arith)) (c .part2 .ensures)
+    rw (place-is, view-past (a .packets .now) (a .heads .now) (a .store) (a .taken .at) (omega arith)) (c .part2 .ensures)
 
 pub bytes-of-spec : {M : Type 1} → statement M
 bytes-of-spec =

@@ -30,7 +30,8 @@ returns-2 c =
     let o = b .before in
     let a = o .before .before .before .before .args in (
       rw (c .if2 .taken) at
-          (earlier-is (a .packets .now) (a .heads .now) (a .n) (a .i) (a .best) (b .is-before .result) (o .compare .result) _ _ (omega arith) (omega arith)
+          (earlier-is (a .packets .now) (a .heads .now) (a .n) (a .i) (a .best) (b .is-before .result) (o .compare .result) _ _
+          (omega arith) (omega arith)
           (b .is-before .ensures) (o .compare .ensures) (o .before .before .name-at .ensures) (o .before .name-at2 .ensures)),
       omega arith,
     )
@@ -42,7 +43,8 @@ returns-3 c =
     let o = b .before in
     let a = o .before .before .before .before .args in (
       rw (c .if2 .left) at
-          (earlier-is (a .packets .now) (a .heads .now) (a .n) (a .i) (a .best) (b .is-before .result) (o .compare .result) _ _ (omega arith) (omega arith)
+          (earlier-is (a .packets .now) (a .heads .now) (a .n) (a .i) (a .best) (b .is-before .result) (o .compare .result) _ _
+          (omega arith) (omega arith)
           (b .is-before .ensures) (o .compare .ensures) (o .before .before .name-at .ensures) (o .before .name-at2 .ensures)),
       omega arith,
     )

@@ -4,18 +4,19 @@ use native.Mathlib.Omega.{arith}
 use mathlib.Core.Path.{_≡_, sym, ap, _∙_}
 use Prim.Native.Nat.{_-_, _≤_}
 use Rattle.records.specs.Stored.{serves, earlier}
-use Rattle.store.specs.Places.View.{view-length}
-use Rattle.store.specs.Laws.Look.{bestFrom, best-end, best-taken, best-passed, best-all, place-of}
-use Rattle.store.specs.Places.Look.{hitAt}
+use Rattle.store.specs.declared.Store.{Store}
+use Rattle.store.specs.Places.View.{view, place-is, view-length, view-count}
+use Rattle.store.specs.Laws.Look.{best-end, best-taken, best-passed, best-all, place-of}
+use Rattle.store.specs.Places.Look.{hitAt, bestFrom}
 use Rattle.store.proofs.look.Statement.{statement}
 use Rattle.store.proofs.look.Tie as tie
 
 abbrev Inv-loop : tie.InvT-loop
-Inv-loop packets heads count name prefix fresh time n best₀ i₀ best i =
-    (i ≤ n) × (best ≤ n) × (bestFrom (serves time name prefix fresh) packets heads count i ≡ hitAt packets heads n best)
+Inv-loop packets heads name prefix fresh time n best₀ i₀ best i =
+    (i ≤ n) × (best ≤ n) × (bestFrom (serves time name prefix fresh) packets heads (record { count = n }) i ≡ hitAt packets heads n best)
 
 abbrev μ-loop : tie.MeasureT-loop
-μ-loop packets heads count name prefix fresh time n best₀ i₀ best i = i
+μ-loop packets heads name prefix fresh time n best₀ i₀ best i = i
 
 clamped-requires : tie.Need-clamped-requires Inv-loop μ-loop
 clamped-requires c κs = search needs
@@ -24,7 +25,7 @@ loop-holds : tie.Need-loop-holds Inv-loop μ-loop
 loop-holds c =
     let a = c .before .before .args in
     let p = serves (a .time) (a .name .now) (a .prefix) (a .fresh) in
-    (omega arith, omega arith, best-end p (a .packets .now) (a .heads .now) (a .count) (c .clamped .result) (c .clamped .ensures))
+    (omega arith, omega arith, best-end p (a .packets .now) (a .heads .now) _ (c .clamped .result) (omega arith))
 
 sub-i : tie.Need-sub-i Inv-loop μ-loop
 sub-i c = search needs
@@ -46,7 +47,7 @@ loop-again c =
     let p = serves (a .time) (a .name .now) (a .prefix) (a .fresh) in (
       omega arith,
       c .earlier-of .ensures .1,
-      best-taken p (a .packets .now) (a .heads .now) (a .count) (l .loop .i - 1) (l .loop .i) (omega arith) (omega arith)
+      best-taken p (a .packets .now) (a .heads .now) _ (l .loop .i - 1) (l .loop .i) (omega arith) (omega arith)
           (sym (s .is-served .ensures) ∙ c .before .if1 .taken)
           ∙ ap (earlier _) (l .loop .inv .2)
           ∙ sym (c .earlier-of .ensures .0),
@@ -63,7 +64,7 @@ loop-again-2 c =
     let p = serves (a .time) (a .name .now) (a .prefix) (a .fresh) in (
       omega arith,
       omega arith,
-      best-passed p (a .packets .now) (a .heads .now) (a .count) (l .loop .i - 1) (l .loop .i) (omega arith) (omega arith)
+      best-passed p (a .packets .now) (a .heads .now) _ (l .loop .i - 1) (l .loop .i) (omega arith) (omega arith)
           (sym (s .is-served .ensures) ∙ c .if1 .left)
           ∙ l .loop .inv .2,
     )
@@ -75,13 +76,17 @@ returns c =
     let a = l .before .before .before .args in
     let ps = a .packets .now in
     let hs = a .heads .now in
+    let m : Store = record { count = n .result } in
     let z : l .loop .i ≡ 0 = omega arith in
-    let e : bestFrom (serves (a .time) (a .name .now) (a .prefix) (a .fresh)) ps hs (a .count) 0 ≡ hitAt ps hs (n .result) (l .loop .best) =
+    let e : bestFrom (serves (a .time) (a .name .now) (a .prefix) (a .fresh)) ps hs m 0 ≡ hitAt ps hs (n .result) (l .loop .best) =
     rw z at (l .loop .inv .2) in
-    rw (
-      view-length ps hs (a .count),
+    let v : view ps hs (a .store) ≡ view ps hs m = view-count ps hs (a .store) m (omega arith) in
+    place-is _ _ _ _
+    ∙ rw (
+      view-length ps hs (a .store),
       ← (n .ensures),
-      ← (best-all (a .time) (a .name .now) (a .prefix) (a .fresh) ps hs (a .count)),
+      v,
+      ← (best-all (a .time) (a .name .now) (a .prefix) (a .fresh) ps hs m),
       e,
     )
     (sym (place-of ps hs (n .result) (l .loop .best) (omega arith)))

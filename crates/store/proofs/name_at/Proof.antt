@@ -1,7 +1,7 @@
 -- The name of the bytes that the head cuts off the row.
 use borrow.Author.Needs.{needs}
 use mathlib.Core.Path.{ap, _∙_}
-use Rattle.packets.specs.Name.{nameOf}
+use Rattle.packethead.specs.Name.{nameOf}
 use Rattle.store.specs.Places.View.{storedAt, storedOf, dataOf}
 use Rattle.store.proofs.name_at.Statement.{statement}
 use Rattle.store.proofs.name_at.Tie as tie

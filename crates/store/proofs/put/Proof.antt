@@ -5,10 +5,14 @@ use Rattle.store.specs.Laws.Put.{put-long, put-short}
 use Rattle.store.proofs.put.Statement.{statement}
 use Rattle.store.proofs.put.Tie as tie
 
+clamped-requires : tie.Need-clamped-requires
+clamped-requires c κs = search needs
+
 returns : tie.Need-returns
 returns c =
-    let a = c .before .before .args in
-    put-long (a .bytes .now) (a .time) (a .freshness) (a .packets .now) (a .heads .now) (a .count) (omega arith)
+    let a = c .before .before .before .args in
+    let n = c .clamped in
+    put-long (a .bytes .now) (a .time) (a .freshness) (a .packets .now) (a .heads .now) (a .store) (n .result) (n .ensures) (omega arith)
 
 find-name-requires : tie.Need-find-name-requires
 find-name-requires c κs = search needs
@@ -34,14 +38,14 @@ index-1-fill c = search needs
 fill-requires : tie.Need-fill-requires
 fill-requires c κs = search needs
 
-mul-t24 : tie.Need-mul-t24
-mul-t24 c = search needs
+mul-t26 : tie.Need-mul-t26
+mul-t26 c = search needs
 
 element-set-from-heads : tie.Need-element-set-from-heads
 element-set-from-heads c = search needs
 
-add-t9 : tie.Need-add-t9
-add-t9 c = search needs
+add-t10 : tie.Need-add-t10
+add-t10 c = search needs
 
 returns-2 : tie.Need-returns-2
 returns-2 c =
@@ -51,14 +55,15 @@ returns-2 c =
     let l = t .before .before .before in
     let f = l .before in
     let a = f .before .before .before .before .before .args in
-    put-short (a .bytes .now) (a .time) (a .freshness) (a .packets .now) (a .heads .now) (a .count) _ _ (t .take-out .result) _ (omega arith)
-    (t .take-out .ensures .1) (p .has-all-packets .ensures) (h .has-all-heads .ensures)
+    put-short (a .bytes .now) (a .time) (a .freshness) (a .packets .now) (a .heads .now) (a .store) _ _
+    (t .take-out .result) _ (omega arith) (t .take-out .ensures .1) (p .has-all-packets .ensures) (h .has-all-heads .ensures)
     (rw (l .leaving .ensures .0, f .find-name .ensures) at (t .take-out .ensures .0)) (c .fill .ensures)
 
 pub put-spec : {M : Type 1} → statement M
 put-spec =
     tie.close
     (tie.spec
+    clamped-requires
     returns
     find-name-requires
     leaving-requires
@@ -68,7 +73,7 @@ put-spec =
     mul-fill
     index-1-fill
     fill-requires
-    mul-t24
+    mul-t26
     element-set-from-heads
-    add-t9
+    add-t10
     returns-2)

@@ -13,13 +13,13 @@ use Rattle.store.proofs.take_out.Statement.{statement}
 use Rattle.store.proofs.take_out.Tie as tie
 
 abbrev Inv-loop : tie.InvT-loop
-Inv-loop packets₀ heads₀ count i n k₀ packets heads k =
+Inv-loop packets₀ heads₀ i n k₀ packets heads k =
     (i + 1 ≤ k)
     × (turns (down []) (i + 1) (n - (i + 1)) packets₀ ≡ turns (down []) k (n - k) packets)
     × (turns (down []) (i + 1) (n - (i + 1)) heads₀ ≡ turns (down []) k (n - k) heads)
 
 abbrev μ-loop : tie.MeasureT-loop
-μ-loop packets₀ heads₀ count i n k₀ packets heads k = n - k
+μ-loop packets₀ heads₀ i n k₀ packets heads k = n - k
 
 clamped-requires : tie.Need-clamped-requires Inv-loop μ-loop
 clamped-requires c κs = search needs
@@ -28,8 +28,8 @@ returns : tie.Need-returns Inv-loop μ-loop
 returns c =
     let n = c .before in
     let a = n .before .args in (
-      view-count (a .packets .now) (a .heads .now) (n .clamped .result) (a .count) (omega arith)
-          ∙ sym (without-out (a .i) _ (omega (arith, view-length (a .packets .now) (a .heads .now) (a .count)))),
+      view-count (a .packets .now) (a .heads .now) (record { count = n .clamped .result }) (a .store) (omega arith)
+          ∙ sym (without-out (a .i) _ (omega (arith, view-length (a .packets .now) (a .heads .now) (a .store)))),
       omega arith,
     )
 
@@ -98,7 +98,7 @@ returns-2 c =
     let a = n .before .args in
     let l = c .before .loop in (
       rw (l .inv .1 ∙ turns-end _ _ _ _ (omega arith), l .inv .2 ∙ turns-end _ _ _ _ (omega arith)) at
-          (view-without (a .packets .now) (a .heads .now) (a .count) (a .i) (n .clamped .result) (n .clamped .ensures) (omega arith)
+          (view-without (a .packets .now) (a .heads .now) (a .store) (a .i) (n .clamped .result) (n .clamped .ensures) (omega arith)
           (p .has-all-packets .ensures) (h .has-all-heads .ensures)),
       omega arith,
     )

@@ -1,11 +1,8 @@
 -- A Data is taken out and written after the last. The last is the most recent already, and past it nothing changes.
 use borrow.Author.Needs.{needs}
 use native.Mathlib.Omega.{arith}
-use mathlib.Core.Path.{sym}
-use Prim.Native.Nat.{_+_, _≤_}
-use lib.ListN.{length}
-use Rattle.store.specs.Places.View.{view, view-length}
-use Rattle.store.specs.Laws.Put.{recent-last, touch-is}
+use Rattle.store.specs.Places.View.{place-is, view-state}
+use Rattle.store.specs.Laws.Put.{last-stays, touch-is}
 use Rattle.store.proofs.touch.Statement.{statement}
 use Rattle.store.proofs.touch.Tie as tie
 
@@ -15,9 +12,9 @@ clamped-requires c κs = search needs
 returns : tie.Need-returns
 returns c =
     let a = c .before .before .args in
-    let v : length (view (a .packets .now) (a .heads .now) (a .count)) ≤ a .i + 1 =
-    omega (arith, view-length (a .packets .now) (a .heads .now) (a .count)) in
-    sym (recent-last (a .i) (view (a .packets .now) (a .heads .now) (a .count)) v)
+    let n = c .before .clamped in
+    let same = last-stays (a .packets .now) (a .heads .now) (a .store) (n .result) (a .taken) (n .ensures) (omega arith) in
+    (same, view-state _ _ _ (omega arith))
 
 sub-if2 : tie.Need-sub-if2
 sub-if2 c = search needs
@@ -57,19 +54,21 @@ element-set-from-head c = search needs
 
 returns-2 : tie.Need-returns-2
 returns-2 c =
-    let p = c .before .before in
-    let t = p .before .before in
-    let n = t .before .before .before .before .before .before .before in
-    let a = n .before .args in
-    touch-is (a .packets .now) (a .heads .now) (a .count) _ _ (a .i) (t .take-out .result) (omega arith) (t .take-out .ensures .1)
-    (p .has-all-packets .ensures) (c .has-all-heads .ensures) (t .take-out .ensures .0)
+    let a = c .before .before .before .before .before .before .before .before .before .before .before .before .args in
+    let n = c .before .before .before .before .before .before .before .before .before .before .before .clamped in
+    let t = c .before .before .before .before .take-out in (
+      rw place-is (touch-is (a .packets .now) (a .heads .now) (a .store) _ _ (n .result) (a .taken .at) (t .result) (n .ensures)
+          (omega arith)
+          (t .ensures .1) (c .before .before .has-all-packets .ensures) (c .has-all-heads .ensures) (t .ensures .0)),
+      view-state _ _ _ (omega arith),
+    )
 
 returns-3 : tie.Need-returns-3
 returns-3 c =
     let a = c .before .before .before .args in
-    let v : length (view (a .packets .now) (a .heads .now) (a .count)) ≤ a .i + 1 =
-    omega (arith, view-length (a .packets .now) (a .heads .now) (a .count)) in
-    sym (recent-last (a .i) (view (a .packets .now) (a .heads .now) (a .count)) v)
+    let n = c .before .before .clamped in
+    let same = last-stays (a .packets .now) (a .heads .now) (a .store) (n .result) (a .taken) (n .ensures) (omega arith) in
+    (same, view-state _ _ _ (omega arith))
 
 pub touch-spec : {M : Type 1} → statement M
 touch-spec =

@@ -5,12 +5,13 @@ use mathlib.Core.Path.{_≡_, refl, sym}
 use mathlib.Core.Bool.{Bool, true, false, _&&_, _||_}
 use mathlib.Core.List.{List}
 use mathlib.Core.Option.{Option, none, some}
-use lib.ListN.{length, getD, drop, drop-of-length-le}
+use lib.ListN.{length, getD, drop-of-length-le}
 use lib.Seq.{take-length}
 use lib.Dec.{ltb}
 use native.Mathlib.Omega.{arith}
 use native.Mathlib.Numerals.{add-one}
 use borrow.Author.Tests.{ltb-true, ltb-false, lt-ltb, le-ltb}
+use Rattle.sizes.specs.Sizes.{mostStored}
 use Rattle.laws.specs.Pick.{pick}
 use Rattle.laws.specs.Laws.Pick.{pick-ind, pick-yes, pick-no, pick-ap}
 use Rattle.names.specs.Name.{sameBytes, prefixOf}
@@ -19,8 +20,9 @@ use Rattle.names.specs.Order.{canonicalOrder}
 use Rattle.names.specs.Laws.Same.{same-equal, same-refl}
 use Rattle.records.specs.Slots.{given}
 use Rattle.records.specs.Stored.{Stored, Hit, serves, isBefore, earlier, lookupFrom, lookup}
+use Rattle.store.specs.declared.Store.{Store}
 use Rattle.store.specs.Places.View.{storedOf, storedAt, view, dataOf, view-length, view-from}
-use Rattle.store.specs.Places.Look.{hit, hitAt, answers, inTime}
+use Rattle.store.specs.Places.Look.{hit, hitAt, answers, inTime, bestFrom}
 
 -- a lookup may take a Data whose name answers and which is in time
 pub serves-is : (now : ℕ) (name row head : List ℕ) (p m : Bool)
@@ -114,31 +116,28 @@ module _ (packets heads : List (List ℕ)) (n : ℕ) where
   unfolding earlier hit
   earlier-is i best t o x y h g q e a b = rw (pick-ap (hitAt packets heads n), hit-in i h, hit-in best g, q, e, a, b)
 
-module _ (p : Stored → Bool) (packets heads : List (List ℕ)) (count : ℕ) where
-  -- what a lookup takes of the Data from a place on
-  unfoldable pub bestFrom : ℕ → Option Hit
-  bestFrom i = lookupFrom p i (drop i (view packets heads count))
-
+module _ (p : Stored → Bool) (packets heads : List (List ℕ)) (s : Store) where
   -- past the last Data it takes none
-  pub best-end : (n : ℕ) → n ≡ min count 8 → bestFrom n ≡ hitAt packets heads n n
+  pub best-end : (n : ℕ) → n ≡ min (s .count) mostStored → bestFrom p packets heads s n ≡ hitAt packets heads n n
   unfolding bestFrom lookupFrom
   best-end n e =
-      let l : length (view packets heads count) ≤ n = omega (arith, view-length packets heads count) in
-      rw (drop-of-length-le (view packets heads count) l, hit-out packets heads n n (omega arith))
+      let l : length (view packets heads s) ≤ n = omega (arith, view-length packets heads s) in
+      rw (drop-of-length-le (view packets heads s) l, hit-out packets heads n n (omega arith))
 
   -- a Data that it may take is taken, or what it takes of those after it
-  pub best-taken : (i j : ℕ) → i + 1 ≡ j → i < min count 8 → p (storedAt packets heads i) ≡ true
-      → bestFrom i ≡ earlier (hit packets heads i) (bestFrom j)
+  pub best-taken : (i j : ℕ) → i + 1 ≡ j → i < min (s .count) mostStored → p (storedAt packets heads i) ≡ true
+      → bestFrom p packets heads s i ≡ earlier (hit packets heads i) (bestFrom p packets heads s j)
   unfolding bestFrom lookupFrom hit
-  best-taken i j s h e = rw (← s, view-from packets heads count i h, e, pick-yes, add-one i)
+  best-taken i j q h e = rw (← q, view-from packets heads s i h, e, pick-yes, add-one i)
 
   -- a Data that it may not take is passed
-  pub best-passed : (i j : ℕ) → i + 1 ≡ j → i < min count 8 → p (storedAt packets heads i) ≡ false → bestFrom i ≡ bestFrom j
+  pub best-passed : (i j : ℕ) → i + 1 ≡ j → i < min (s .count) mostStored → p (storedAt packets heads i) ≡ false
+      → bestFrom p packets heads s i ≡ bestFrom p packets heads s j
   unfolding bestFrom lookupFrom
-  best-passed i j s h e = rw (← s, view-from packets heads count i h, e, pick-no, add-one i)
+  best-passed i j q h e = rw (← q, view-from packets heads s i h, e, pick-no, add-one i)
 
 -- from the first Data on a lookup takes what it takes
-pub best-all : (now : ℕ) (name : List ℕ) (q m : Bool) (packets heads : List (List ℕ)) (count : ℕ)
-    → bestFrom (serves now name q m) packets heads count 0 ≡ lookup now name q m (view packets heads count)
+pub best-all : (now : ℕ) (name : List ℕ) (q m : Bool) (packets heads : List (List ℕ)) (s : Store)
+    → bestFrom (serves now name q m) packets heads s 0 ≡ lookup now name q m (view packets heads s)
 unfolding bestFrom lookup
-best-all now name q m packets heads count = refl
+best-all now name q m packets heads s = refl

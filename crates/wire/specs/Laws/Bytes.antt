@@ -3,15 +3,12 @@
 use Prim.Native.Nat.{ℕ, zero, suc, _+_, _*_, _^_, _≤_, _<_}
 use mathlib.Core.Path.{_≡_}
 use mathlib.Core.List.{List, [], _∷_, _++_}
-use lib.ListN.{length, getD, take, drop}
+use lib.ListN.{length, take, drop}
 use lib.Seq.{getD-drop, drop-append-seam}
 use native.Mathlib.Nat.{mul-le-mul-right, pow-succ'}
 use native.Mathlib.Omega.{arith}
 use Rattle.wire.specs.Number.{big}
-
--- each element is a byte; past the end stands 0, which is one
-abbrev pub Bytes : List ℕ → Type 0
-Bytes l = (k : ℕ) → getD l k 0 < 256
+use Rattle.wire.specs.Bytes.{Bytes}
 
 -- no element is no exception
 pub bytes-nil : Bytes []

@@ -11,7 +11,7 @@ use native.Mathlib.Omega.{arith}
 use Rattle.laws.specs.Pick.{pick}
 use Rattle.wire.specs.Element.{elem, element, more, elements}
 use Rattle.wire.specs.Write.{headOf, written}
-use Rattle.wire.specs.Laws.Bytes.{Bytes}
+use Rattle.wire.specs.Bytes.{Bytes}
 use Rattle.wire.specs.Laws.Within.{element-within, element-less, rest-bytes}
 use Rattle.wire.specs.Laws.Walk.{elements-ind, elements-stop, elements-more}
 use Rattle.wire.specs.Laws.Exact.{element-exact}

@@ -16,7 +16,8 @@ use Rattle.wire.specs.Laws.Read.{big-snoc}
 use Rattle.wire.specs.Number.{big, Got, nothing, got, wide, long, anyNumber, widthOf, number}
 use Rattle.wire.specs.Element.{elem, element, elements, ended}
 use Rattle.wire.specs.Write.{bytesOf, encoded, written}
-use Rattle.wire.specs.Laws.Bytes.{Bytes, bytes-cons, bytes-right}
+use Rattle.wire.specs.Bytes.{Bytes}
+use Rattle.wire.specs.Laws.Bytes.{bytes-cons, bytes-right}
 use Rattle.wire.specs.Laws.Within.{number-any, number-width, Parts, element-parts, rest-bytes}
 use Rattle.wire.specs.Laws.Walk.{elements-ind, elements-stop, elements-more, ended-rest}
 

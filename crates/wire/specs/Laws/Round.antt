@@ -14,7 +14,8 @@ use Rattle.wire.specs.Laws.Read.{big-snoc}
 use Rattle.wire.specs.Number.{big, got, wide, long, anyNumber, widthOf, shortest, number}
 use Rattle.wire.specs.Element.{elem, valued, typed, elementBy, element}
 use Rattle.wire.specs.Write.{bytesOf, encoded, headOf, written}
-use Rattle.wire.specs.Laws.Bytes.{Bytes, bytes-nil, bytes-more, bytes-append}
+use Rattle.wire.specs.Bytes.{Bytes}
+use Rattle.wire.specs.Laws.Bytes.{bytes-nil, bytes-more, bytes-append}
 use Rattle.wire.specs.Laws.Write.{length-bytesOf, encoded-ind}
 
 -- k bytes make the number that they were made of, where it is below 256 ^ k

@@ -15,7 +15,8 @@ use Rattle.wire.specs.declared.read.Cursor.{Cursor}
 use Rattle.wire.specs.declared.read.Element.{Element}
 use Rattle.wire.specs.declared.read.Number.{Number}
 use Rattle.wire.specs.declared.read.Read.{Read}
-use Rattle.wire.specs.Laws.Bytes.{Bytes, bytes-drop, bytes-take}
+use Rattle.wire.specs.Bytes.{Bytes}
+use Rattle.wire.specs.Laws.Bytes.{bytes-drop, bytes-take}
 use Rattle.wire.specs.Number.{Got, nothing, got, wide, long, anyNumber, widthOf, shortest, number}
 use Rattle.wire.specs.Element.{Elem, bad, elem, valued, typed, element}
 use Rattle.wire.specs.Places.Place.{cursorAt, numberIn, elementIn, anyNumberAt, numberAt, elementAt}

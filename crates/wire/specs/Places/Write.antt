@@ -1,4 +1,4 @@
--- Writing: the bytes of a number in its shortest form and of an element, and what a writer leaves in the buffer.
+-- What a writer answers, and the buffer that it leaves.
 -- Assumes nothing.
 use Prim.Native.Nat.{ℕ, _+_}
 use mathlib.Core.List.{List}

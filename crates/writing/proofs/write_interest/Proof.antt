@@ -5,7 +5,7 @@ use native.Mathlib.Omega.{arith}
 use mathlib.Core.Path.{ap}
 use Rattle.writing.specs.Laws.Stored.{put-next, put-full, next-put, full-put, stored-set, stored-length}
 use Rattle.writing.specs.Laws.Written.{length-lowered}
-use Rattle.writing.specs.Written.{lowered}
+use Rattle.packets.specs.Places.View.{lowered}
 use lib.ListN.{length}
 use Rattle.writing.proofs.write_interest.Statement.{statement}
 use Rattle.writing.proofs.write_interest.Tie as tie

@@ -4,49 +4,36 @@ use Prim.Native.Nat.{ℕ, _+_, _-_, _%_, _^_, _≤_, _<_}
 use mathlib.Core.Path.{_≡_, refl, sym, _∙_, ap}
 use mathlib.Core.Bool.{Bool}
 use mathlib.Core.Logic.{_≢_}
-use mathlib.Core.Option.{Option, none, some}
+use mathlib.Core.Option.{some}
 use mathlib.Core.List.{List, [], _∷_}
 use lib.ListN.{length, set}
 use borrow.Author.Tests.{eqb-true, eq-eqb}
 use native.Mathlib.Omega.{arith}
 use Rattle.laws.specs.Pick.{pick}
-use Rattle.wire.specs.Laws.Bytes.{Bytes, big-below}
+use Rattle.wire.specs.Bytes.{Bytes}
+use Rattle.wire.specs.Laws.Bytes.{big-below}
 use Rattle.wire.specs.Number.{big, isWhole}
 use Rattle.wire.specs.Element.{elem, element}
 use Rattle.wire.specs.Laws.Within.{element-less, value-bytes}
 use Rattle.wire.specs.Laws.Change.{changed, length-changed, changed-set, element-changed}
-use Rattle.grammar.specs.Table.{table, fits, one, interest}
+use Rattle.grammar.specs.Types.{interest}
+use Rattle.grammar.specs.Table.{table, fits, one}
 use Rattle.grammar.specs.Laws.Table.{eachRow}
 use Rattle.grammar.specs.Laws.Fits.{Fitting, walked-fits, ruled, fitting-rule}
 use Rattle.grammar.specs.Walk.{Field, absent, here, Fields, walked}
 use Rattle.grammar.specs.Laws.Walk.{walked-in, field-bytes}
 use Rattle.grammar.specs.Laws.Change.{changedField, Changes, field-changed}
-use Rattle.packets.specs.declared.header.Nacked.{Nacked}
 use Rattle.packets.specs.declared.bare.Interest.{Interest}
 use Rattle.packets.specs.declared.bare.Packet.{Packet}
-use Rattle.packets.specs.Header.{val, wholeNumber, Bare, bare, headerRead}
-use Rattle.packets.specs.Bare.{Reading, bareRead}
-use Rattle.packets.specs.Places.Bare.{hopIn, interestIn, packetIn}
-use Rattle.packets.specs.Bare as read
-use Rattle.packets.specs.Meaning.{Ask, asks, hopOf, askOf, meant, heard}
-use Rattle.packets.specs.Laws.Shape.{Asking, IsInterest, asks-made, nacks-made, bare-short, heard-bare, asking-heard}
-use Rattle.writing.specs.Written.{lowered}
-
--- a HopLimit one lower; none stays none
-abbrev pub lowerHop : Option ℕ → Option ℕ
-lowerHop none = none
-lowerHop (some n) = some (n - 1)
-
--- an Interest with a HopLimit one lower
-abbrev pub lower : Ask → Ask
-lower a = record {
-  name = a .name;
-  canBePrefix = a .canBePrefix;
-  mustBeFresh = a .mustBeFresh;
-  nonce = a .nonce;
-  lifetime = a .lifetime;
-  hop = lowerHop (a .hop);
-}
+use Rattle.packethead.specs.Header.{val, wholeNumber, Bare, bare, headerRead}
+use Rattle.packets.specs.Bare.{bareRead}
+use Rattle.packets.specs.Places.Bare.{packetIn}
+use Rattle.packets.specs.Places.View.{lowered, seen}
+use Rattle.packets.specs.Meaning.{Ask, asks, hopOf, askOf, leaving, heard}
+use Rattle.packets.specs.Laws.Shape.{Asking, IsInterest, asks-made, bare-short, bare-bytes, heard-bare, asking-heard}
+use Rattle.packets.specs.Laws.Heard.{asks-holds}
+use Rattle.packets.specs.Laws.View.{seen-meant}
+use Rattle.writing.specs.Back.{lowerHop, lower, Asks}
 
 -- a HopLimit is one byte
 hop-one : (v : List ℕ) → Fitting interest 7 v → length v ≡ 1
@@ -112,15 +99,18 @@ module _ (f g : Fields) (said : g .said ≡ f .said) (same : (o : ℕ) → o ≢
 module _ (l v : List ℕ) (bytes : Bytes l) (short : length l ≤ 1500) (is : element l ≡ elem 0x05 v [])
     (asking : Asking (walked interest v)) where
   -- an Interest without a HopLimit leaves as it is
-  back-absent : val (walked interest v) 7 ≡ absent → heard l ≡ asks (lower (askOf (walked interest v)))
+  back-absent : val (walked interest v) 7 ≡ absent → Asks l (lower (askOf (walked interest v)))
   back-absent e =
       let f : Fields = walked interest v in
       let h : hopOf (val f 7) ≡ lowerHop (hopOf (val f 7)) = rw e (unfold hopOf in refl) in
-      asking-heard l v short is asking ∙ ap asks (lower-asks f f refl (λ o n. refl) h)
+      record {
+        bytes = leaving l (val f 7);
+        means = asking-heard l v short is asking ∙ ap (λ (a : Ask). asks a (leaving l (val f 7))) (lower-asks f f refl (λ o n. refl) h);
+      }
 
   -- an Interest with a HopLimit w, which k bytes follow, leaves with one that is one lower
   back-here : (w : List ℕ) (k : ℕ) → val (walked interest v) 7 ≡ here w k
-      → heard (set l (length l - k - length w) (wholeNumber w - 1)) ≡ asks (lower (askOf (walked interest v)))
+      → Asks (set l (length l - k - length w) (wholeNumber w - 1)) (lower (askOf (walked interest v)))
   back-here w k e =
       let f : Fields = walked interest v in
       let y : ℕ = wholeNumber w - 1 in
@@ -133,13 +123,17 @@ module _ (l v : List ℕ) (bytes : Bytes l) (short : length l ≤ 1500) (is : el
       let d = alone-changed k y l bytes (omega arith) is (omega arith) in
       let a : Asking g = lower-asking f g (c .said) (c .other) asking in
       let h : hopOf (val g 7) ≡ lowerHop (hopOf (val f 7)) = rw (c .this, e) (hop-lower k w n) in
+      let b : List ℕ = leaving (changed k y 0 l) (val g 7) in
       rw (← q)
-      (asking-heard (changed k y 0 l) (changed k y 0 v) (omega (arith, length-changed k y 0 l)) d a
-      ∙ ap asks (lower-asks f g (c .said) (c .other) h))
+      (record {
+        bytes = b;
+        means = asking-heard (changed k y 0 l) (changed k y 0 v) (omega (arith, length-changed k y 0 l)) d a
+            ∙ ap (λ (x : Ask). asks x b) (lower-asks f g (c .said) (c .other) h);
+      })
 
   -- as it leaves, with its HopLimit one lower if it has one
-  back : (x : Field) → val (walked interest v) 7 ≡ x → heard (lowered l (hopIn (length l) x)) ≡ asks (lower (askOf (walked interest v)))
-  unfolding lowered hopIn
+  back : (x : Field) → val (walked interest v) 7 ≡ x → Asks (leaving l x) (lower (askOf (walked interest v)))
+  unfolding leaving
   back absent e = back-absent e
   back (here w k) e =
       let n : length w ≡ 1 = hop-one w (rw e at (walked-fits interest v 7 (omega arith))) in
@@ -147,35 +141,27 @@ module _ (l v : List ℕ) (bytes : Bytes l) (short : length l ≤ 1500) (is : el
       let y : (wholeNumber w - 1) % 256 ≡ wholeNumber w - 1 = omega arith in
       rw y (back-here w k e)
 
--- a forwarded Interest asks what it asked, with a HopLimit one lower
+-- an Interest as it leaves asks what it asked, with a HopLimit one lower
 interest-back : (m : Bool) (l : List ℕ) (f : Fields) → IsInterest m l f → Bytes l → length l ≤ 1500
-    → heard (lowered l (hopIn (length l) (val f 7))) ≡ asks (lower (askOf f))
+    → Asks (leaving l (val f 7)) (lower (askOf f))
 interest-back m l f i b n =
     let w = i .fields in
     rw w (back l (i .value) b n (i .is) (rw w at (i .asking)) (val (walked interest (i .value)) 7) refl)
 
-module _ (k : Nacked) (m : Bool) (l : List ℕ) (bytes : Bytes l) (short : length l ≤ 1500) {f : Fields} where
-  -- an Interest that is read and forwarded asks what it asked, with a HopLimit one lower
-  pub asks-back : bareRead k m l ≡ read.asks f → heard (lowered l (hopIn (length l) (val f 7))) ≡ asks (lower (askOf f))
-  asks-back e = interest-back m l f (asks-made k m l e .1) bytes short
+-- an Interest that came in any header and leaves without it asks what it asked, with a HopLimit one lower
+pub forward-back : (l : List ℕ) {i : Ask} {b : List ℕ} → Bytes l → heard l ≡ asks i b → Asks b (lower i)
+forward-back l bytes e =
+    let q = asks-holds l e in
+    let x = q .part in
+    let r = interest-back (x .marked) (x .bytes) (q .fields) (asks-made (x .nack) (x .marked) (x .bytes) (q .reads) .1)
+    (bare-bytes l bytes (q .comes)) (bare-short l (q .comes)) in
+    rw (q .ask, q .leaves) at r
 
-  -- so does an Interest that a Nack brings
-  pub nacks-back : {n : ℕ} → bareRead k m l ≡ read.nacks n f → heard (lowered l (hopIn (length l) (val f 7))) ≡ asks (lower (askOf f))
-  nacks-back e = interest-back m l f (nacks-made k m l e .1) bytes short
-
--- an Interest that came in any header and is forwarded without it asks what it asked, with a HopLimit one lower
-pub forward-back : (s : List ℕ) (b : Bare) (i : Interest) {a : Ask} → headerRead s ≡ bare b → Bytes (b .bytes)
-    → packetIn (length (b .bytes)) (bareRead (b .nack) (b .marked) (b .bytes)) ≡ Packet.Interest i → heard s ≡ asks a
-    → heard (lowered (b .bytes) (i .hop)) ≡ asks (lower a)
-unfolding packetIn meant
-forward-back s b i {a} came bytes p h = go (bareRead (b .nack) (b .marked) (b .bytes)) refl p (sym (heard-bare s came) ∙ h)
-  where
-    go : (r : Reading) → bareRead (b .nack) (b .marked) (b .bytes) ≡ r → packetIn (length (b .bytes)) r ≡ Packet.Interest i → meant r ≡ asks a
-        → heard (lowered (b .bytes) (i .hop)) ≡ asks (lower a)
-    go (read.refused x) q p h = cc
-    go (read.brings f g) q p h = cc
-    go (read.nacks r f) q p h = cc
-    go (read.asks f) q p h =
-        let c : interestIn (length (b .bytes)) f ≡ i = cc in
-        let d : askOf f ≡ a = cc in
-        rw (← c, ← d) (asks-back (b .nack) (b .marked) (b .bytes) bytes (bare-short s came) q)
+-- what is written of an Interest that the reader answers is what leaves
+pub forward-leaves : (s : List ℕ) (b : Bare) (i : Interest) {a : Ask} {c : List ℕ} → headerRead s ≡ bare b
+    → packetIn (length (b .bytes)) (bareRead (b .nack) (b .marked) (b .bytes)) ≡ Packet.Interest i → heard s ≡ asks a c
+    → lowered (b .bytes) (i .hop) ≡ c
+unfolding seen
+forward-leaves s b i came p h =
+    let q = rw p at (seen-meant (b .nack) (b .marked) (b .bytes)) in
+    cc (q ∙ sym (heard-bare s came) ∙ h)

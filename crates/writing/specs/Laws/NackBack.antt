@@ -3,33 +3,36 @@
 use Prim.Native.Nat.{ℕ, _^_, _≤_, _<_}
 use mathlib.Core.Path.{_≡_, refl, sym, _∙_, ap}
 use mathlib.Core.Bool.{Bool, true, false}
-use mathlib.Core.Option.{none}
-use mathlib.Core.Logic.{_≢_}
 use mathlib.Core.List.{List, [], _∷_, _++_, append-nil}
 use lib.ListN.{length, length-append}
 use lib.Dec.{eqb}
-use borrow.Author.Tests.{lt-leb, ne-eqb, eqb-true}
+use borrow.Author.Tests.{lt-leb, eqb-true}
 use native.Mathlib.Omega.{arith}
 use Rattle.laws.specs.Pick.{pick}
 use Rattle.laws.specs.Laws.Pick.{pick-ind}
 use Rattle.wire.specs.Number.{big, isWhole}
 use Rattle.wire.specs.Element.{elem, element, elements}
 use Rattle.wire.specs.Write.{bytesOf, written}
-use Rattle.wire.specs.Laws.Bytes.{Bytes}
+use Rattle.wire.specs.Bytes.{Bytes}
 use Rattle.wire.specs.Laws.Walk.{elements-none}
 use Rattle.wire.specs.Laws.Write.{length-bytesOf}
 use Rattle.wire.specs.Laws.Round.{big-bytesOf, element-written}
-use Rattle.grammar.specs.Table.{table, rowOf, fits, other, interest, lp, nack}
-use Rattle.grammar.specs.Walk.{markedBy, known, unknown, judged, item, Field, absent, here, Fields, noFields, met, walkedFrom, walked}
+use Rattle.wire.specs.declared.verdict.Verdict.{Verdict}
+use Rattle.wire.specs.Verdict.{isMalformed}
+use Rattle.grammar.specs.Types.{interest, lpPacket as lp, nack}
+use Rattle.grammar.specs.Table.{table, rowOf, fits, other}
+use Rattle.grammar.specs.Walk.{saidWith, known, judged, item, Field, absent, here, Fields, noFields, met, walkedFrom, walked}
 use Rattle.grammar.specs.Laws.Walk.{walked-from, walked-none, walked-end, walked-written}
-use Rattle.packets.specs.declared.header.Nacked.{Nacked}
-use Rattle.packets.specs.Header.{val, bytesIn, present, wholeNumber, bare, lpRead, headerRead}
+use Rattle.packethead.specs.declared.header.Nacked.{Nacked}
+use Rattle.packethead.specs.Header.{val, bytesIn, present, wholeNumber, bare, lpRead, headerRead}
 use Rattle.packets.specs.Bare.{bareRead, askedBy, lifetimeOf}
-use Rattle.packets.specs.Laws.Shape.{IsInterest, asks-made, nonce-below, bare-interest, Well, Asking, asking-read, header-lp, heard-bare}
-use Rattle.packets.specs.Bare as read
-use Rattle.packets.specs.Meaning.{Ask, hopOf, askOf, nacks, meant, heard}
+use Rattle.packets.specs.Laws.Shape.{bare-interest, Asking, asking-read, header-lp, heard-bare, bare-means}
+use Rattle.packets.specs.Well.{Well}
+use Rattle.packets.specs.Laws.Heard.{asks-well, asks-nonce}
+use Rattle.packets.specs.Meaning.{Ask, hopOf, askOf, asks, nacks, meant, heard}
 use Rattle.writing.specs.Written.{flag, requestValue, requestBytes, reasonBytes, nackValue, nackBytes}
 use Rattle.writing.specs.Laws.Size.{length-written, pick-most, nack-is, nack-size, request-size}
+use Rattle.writing.specs.Back.{request}
 
 -- the field of a flag, with n bytes behind it
 abbrev flagField : Bool → ℕ → Field
@@ -39,7 +42,7 @@ flagField false n = absent
 -- what the elements of an Interest say up to order o, with Name, flags and Nonce
 abbrev asked : ℕ → Field → Field → Field → Field → Fields
 asked o x y z w = record {
-  said = 0;
+  said = Verdict.Fine;
   last = o;
   vals = absent ∷ x ∷ y ∷ z ∷ absent ∷ w ∷ absent ∷ absent ∷ absent ∷ absent ∷ absent ∷ [];
 }
@@ -56,14 +59,14 @@ module _ (x : Field) (r : List ℕ) where
   -- CanBePrefix after a Name
   prefix-met : (p : Bool) → walkedFrom interest (asked 1 x absent absent absent) (elements item (flag 0x21 p ++ r))
       ≡ walkedFrom interest (asked (pick p 2 1) x (flagField p (length r)) absent absent) (elements item r)
-  unfolding pick met judged known unknown markedBy rowOf table fits other
+  unfolding pick met judged known saidWith rowOf table fits other
   prefix-met p = flag-met 0x21 p r _ _ (omega arith) (omega arith) (λ e. rw e) (λ e. rw e)
 
   -- MustBeFresh after them
   fresh-met : (m : Bool) (o : ℕ) (y : Field) → o ≤ 2
       → walkedFrom interest (asked o x y absent absent) (elements item (flag 0x12 m ++ r))
       ≡ walkedFrom interest (asked (pick m 3 o) x y (flagField m (length r)) absent) (elements item r)
-  unfolding pick met judged known unknown markedBy rowOf table fits other
+  unfolding pick met judged known saidWith rowOf table fits other
   fresh-met m o y h = flag-met 0x12 m r _ _ (omega arith) (omega arith) (λ e. rw (e, lt-leb 3 o (omega arith))) (λ e. rw e)
 
 -- one element alone is met
@@ -77,7 +80,7 @@ nonce-met : (x y z : Field) (o : ℕ) (w : List ℕ) → o ≤ 4 → length w �
     → walkedFrom interest (asked o x y z absent) (elements item (written 0x0A w)) ≡ asked 5 x y z (here w 0)
 nonce-met x y z o w h l =
     one-met interest 0x0A w (asked o x y z absent) (omega arith) (omega arith) (omega arith)
-    ∙ unfold pick met judged known unknown markedBy rowOf table fits other in rw (l, lt-leb 5 o (omega arith))
+    ∙ unfold pick met judged known saidWith rowOf table fits other in rw (l, lt-leb 5 o (omega arith))
 
 -- f is what the elements of an Interest of a name, flags and the bytes w of a nonce say, with numbers of bytes that follow them
 record Asked (name : List ℕ) (p m : Bool) (w : List ℕ) (f : Fields) : Type 0 where
@@ -99,7 +102,7 @@ request-fields name p m nonce h =
     let i : o ≤ 2 = pick-most p 1 2 (omega arith) .1 in
     let j : pick m 3 o ≤ 3 = pick-most m o 3 (omega arith) .1 in
     let one : met interest noFields (item 0x07 name r) ≡ asked 1 x absent absent absent =
-    unfold noFields pick met judged known unknown markedBy rowOf table fits other in refl in
+    unfold noFields pick met judged known saidWith rowOf table fits other in refl in
     record {
       a = length r;
       b = length s;
@@ -117,10 +120,6 @@ whole-nonce : (n : ℕ) → n < 2 ^ 32 → wholeNumber (bytesOf 4 n) ≡ n
 unfolding wholeNumber pick isWhole
 whole-nonce n h = rw (length-bytesOf 4 n) (big-bytesOf 4 n (omega arith))
 
--- what the Interest in a Nack means
-abbrev pub request : List ℕ → Bool → Bool → ℕ → Ask
-request name p m nonce = record { name = name; canBePrefix = p; mustBeFresh = m; nonce = nonce; lifetime = 4000; hop = none }
-
 -- a flag is there where it is set
 flag-there : (b : Bool) (n : ℕ) → present (flagField b n) ≡ b
 flag-there true n = refl
@@ -128,7 +127,7 @@ flag-there false n = refl
 
 -- f is what the elements of an Interest say that is not refused
 asked-asking : {name : List ℕ} {p m : Bool} {w : List ℕ} {f : Fields} → Well name → Asked name p m w f → Asking f
-asked-asking h a = rw (a .is) (record { fine = λ z. omega arith; known = λ z. omega arith; name = refl; nonce = refl; well = h })
+asked-asking h a = rw (a .is) (record { fine = refl; known = refl; name = refl; nonce = refl; well = h })
 
 -- what it asks
 asked-means : {name : List ℕ} {p m : Bool} {nonce : ℕ} {f : Fields} → nonce < 2 ^ 32 → Asked name p m (bytesOf 4 nonce) f
@@ -152,18 +151,18 @@ request-back k name p m nonce h =
 
 -- the elements of a Nack say its reason
 record Says (f : Fields) (n : ℕ) : Type 0 where
-  fine : f .said ≢ 5
+  fine : isMalformed (f .said) ≡ false
   reason : wholeNumber (bytesIn (val f 1)) ≡ n
 
 -- no element says 0
 says-none : Says noFields 0
 unfolding noFields wholeNumber isWhole pick
-says-none = record { fine = λ z. omega arith; reason = refl }
+says-none = record { fine = refl; reason = refl }
 
 -- a NackReason says its number
 says-one : (n : ℕ) → Says (met nack noFields (item 0x0321 (n ∷ []) [])) n
-unfolding noFields wholeNumber isWhole big pick met judged known unknown markedBy rowOf table fits other
-says-one n = record { fine = λ z. omega arith; reason = omega arith }
+unfolding noFields wholeNumber isWhole big pick met judged known saidWith rowOf table fits other
+says-one n = record { fine = refl; reason = omega arith }
 
 -- the elements of the Nack that is written
 reason-says : (n : ℕ) → Says (walked nack (reasonBytes n)) n
@@ -179,7 +178,7 @@ reason-says n =
 lp-fields : (r v : List ℕ) → length r < 2 ^ 64 → length v < 2 ^ 64
     → walked lp (written 0x0320 r ++ written 0x50 v)
     ≡ record {
-      said = 0;
+      said = Verdict.Fine;
       last = 2;
       vals = absent ∷ here r (length (written 0x50 v)) ∷ here v 0 ∷ absent ∷ absent ∷ absent ∷ absent ∷ absent ∷ absent ∷ absent ∷ absent ∷ [];
     }
@@ -188,13 +187,13 @@ lp-fields r v h k =
     sym (walked-from lp (written 0x0320 r ++ w))
     ∙ walked-written lp noFields 0x0320 r w (omega arith) (omega arith) h
     ∙ one-met lp 0x50 v (met lp noFields (item 0x0320 r w)) (omega arith) (omega arith) k
-    ∙ unfold noFields pick met judged known unknown markedBy rowOf table fits other in refl
+    ∙ unfold noFields pick met judged known saidWith rowOf table fits other in refl
 
 -- an LpPacket of a Nack and a Fragment is read as these
 lp-back : (r v : List ℕ) (n : ℕ) → length r < 2 ^ 64 → length v < 2 ^ 64 → Says (walked nack r) n
     → lpRead (written 0x0320 r ++ written 0x50 v) ≡ bare (record { nack = Nacked.Reason n; marked = false; bytes = v; left = 0 })
 unfolding lpRead
-lp-back r v n h k s = rw (lp-fields r v h k, ne-eqb (walked nack r .said) 5 (s .fine), s .reason)
+lp-back r v n h k s = rw (lp-fields r v h k, s .fine, s .reason)
 
 module _ (reason : ℕ) (name : List ℕ) (p m : Bool) (nonce : ℕ) where
   -- the header of a Nack that is written is read back
@@ -219,16 +218,14 @@ module _ (reason : ℕ) (name : List ℕ) (p m : Bool) (nonce : ℕ) where
   pub nack-back : Well name → nonce < 2 ^ 32 → heard (nackBytes reason name p m nonce) ≡ nacks reason (request name p m nonce)
   unfolding meant askedBy
   nack-back well h =
+      let b : List ℕ = requestBytes name p m nonce in
       heard-bare (nackBytes reason name p m nonce) (nack-header (well .short))
-      ∙ ap meant (request-back (Nacked.Reason reason) name p m nonce well)
+      ∙ bare-means (Nacked.Reason reason) false b
+      ∙ ap (meant b) (request-back (Nacked.Reason reason) name p m nonce well)
       ∙ ap (nacks reason) (asked-means h (request-fields name p m nonce (well .short)))
 
 -- so a Nack for an Interest that was read is read back
-pub answer-back : (reason : ℕ) (k : Nacked) (m : Bool) (l : List ℕ) {f : Fields} → Bytes l → bareRead k m l ≡ read.asks f
-    → let a = askOf f in
-    heard (nackBytes reason (a .name) (a .canBePrefix) (a .mustBeFresh) (a .nonce))
+pub answer-back : (reason : ℕ) (l : List ℕ) {a : Ask} {b : List ℕ} → Bytes l → heard l ≡ asks a b
+    → heard (nackBytes reason (a .name) (a .canBePrefix) (a .mustBeFresh) (a .nonce))
     ≡ nacks reason (request (a .name) (a .canBePrefix) (a .mustBeFresh) (a .nonce))
-unfolding askOf
-answer-back reason k m l {f} b e =
-    let i : IsInterest m l f = asks-made k m l e .1 in
-    nack-back reason _ _ _ _ (i .asking .well) (nonce-below m l f b i)
+answer-back reason l h e = nack-back reason _ _ _ _ (asks-well l e) (asks-nonce l e h)

@@ -11,7 +11,8 @@ use Rattle.laws.specs.Laws.Pick.{pick-ind}
 use Rattle.wire.specs.Write.{bytesOf, written}
 use Rattle.wire.specs.Laws.Write.{width-most, length-bytesOf}
 use Rattle.packets.specs.declared.bare.Hop.{Hop}
-use Rattle.writing.specs.Written.{flag, requestValue, requestBytes, reasonBytes, nackValue, lowered}
+use Rattle.packets.specs.Places.View.{lowered}
+use Rattle.writing.specs.Written.{flag, requestValue, requestBytes, reasonBytes, nackValue}
 use Rattle.writing.specs.Laws.Size.{length-written, request-parts, nack-parts}
 
 -- an element of any length has 18 bytes more than its value, at most

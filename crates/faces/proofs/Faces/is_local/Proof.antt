@@ -1,7 +1,7 @@
 -- A face that is open is asked of the set of the local ones.
 use borrow.Author.Needs.{needs}
 use mathlib.Core.Path.{sym, _∙_}
-use Rattle.faces.specs.Laws.View.{asked-local}
+use Rattle.faces.specs.Laws.View.{local-is}
 use Rattle.faces.proofs.Faces.is_local.Statement.{statement}
 use Rattle.faces.proofs.Faces.is_local.Tie as tie
 
@@ -12,10 +12,10 @@ has-requires-2 : tie.Need-has-requires-2
 has-requires-2 c κs = search needs
 
 returns : tie.Need-returns
-returns c = rw (asked-local, sym (c .before .before .has .ensures) ∙ c .before .if1 .taken) (c .has2 .ensures)
+returns c = rw (local-is, sym (c .before .before .has .ensures) ∙ c .before .if1 .taken) (c .has2 .ensures)
 
 returns-2 : tie.Need-returns-2
-returns-2 c = rw (asked-local, sym (c .before .has .ensures) ∙ c .if1 .left)
+returns-2 c = rw (local-is, sym (c .before .has .ensures) ∙ c .if1 .left)
 
 pub is-local-spec : {M : Type 1} → statement M
 is-local-spec = tie.close (tie.spec has-requires has-requires-2 returns returns-2)

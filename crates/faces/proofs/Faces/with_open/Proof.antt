@@ -4,7 +4,7 @@ use mathlib.Core.Path.{refl}
 use mathlib.Core.Bool.{true, false}
 use Rattle.faces.specs.Laws.View.{with-open}
 use Rattle.laws.specs.Pick.{pick}
-use Rattle.faces.specs.Operations.{linkOf}
+use Rattle.faces.specs.Link.{linkType}
 use Rattle.faces.proofs.Faces.with_open.Statement.{statement}
 use Rattle.faces.proofs.Faces.with_open.Tie as tie
 
@@ -42,25 +42,28 @@ add-requires-3 : tie.Need-add-requires-3
 add-requires-3 c κs = search needs
 
 returns : tie.Need-returns
-unfolding pick linkOf
+unfolding pick linkType
 returns c =
     rw (c .before .before .enum-told .given .1)
     (with-open _ _ _ true false _ (c .before .before .before .before .before .before .args .self) _ refl
-    (c .before .before .before .before .before .add .ensures) (c .before .before .before .before .put .ensures) (c .before .add2 .ensures) (c .remove .ensures))
+    (c .before .before .before .before .before .add .ensures) (c .before .before .before .before .put .ensures)
+    (c .before .add2 .ensures) (c .remove .ensures))
 
 returns-2 : tie.Need-returns-2
-unfolding pick linkOf
+unfolding pick linkType
 returns-2 c =
     rw (c .before .before .enum-told2 .given .1)
     (with-open _ _ _ false false _ (c .before .before .before .before .before .before .args .self) _ refl
-    (c .before .before .before .before .before .add .ensures) (c .before .before .before .before .put .ensures) (c .before .remove2 .ensures) (c .remove3 .ensures))
+    (c .before .before .before .before .before .add .ensures) (c .before .before .before .before .put .ensures)
+    (c .before .remove2 .ensures) (c .remove3 .ensures))
 
 returns-3 : tie.Need-returns-3
-unfolding pick linkOf
+unfolding pick linkType
 returns-3 c =
     rw (c .before .before .enum-told3 .given .1)
     (with-open _ _ _ false true _ (c .before .before .before .before .before .before .args .self) _ refl
-    (c .before .before .before .before .before .add .ensures) (c .before .before .before .before .put .ensures) (c .before .remove4 .ensures) (c .add3 .ensures))
+    (c .before .before .before .before .before .add .ensures) (c .before .before .before .before .put .ensures)
+    (c .before .remove4 .ensures) (c .add3 .ensures))
 
 pub with-open-spec : {M : Type 1} → statement M
 with-open-spec =

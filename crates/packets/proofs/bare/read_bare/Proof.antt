@@ -39,6 +39,9 @@ add-to c =
     let i = sym (e .before .before .element .ensures) ∙ e .e .given .1 in
     omega (arith, read-is _ _ _ _ i)
 
+cast-if2 : tie.Need-cast-if2
+cast-if2 c = search needs
+
 sub-read-interest : tie.Need-sub-read-interest
 sub-read-interest c = search needs
 
@@ -69,6 +72,9 @@ returns-2 c =
       ← bare-ends _ _ _ i (c .before .before .before .before .before .before .if1 .left),
     )
     (rw add-sub-cancel-left at (c .read-interest .ensures))
+
+cast-if3 : tie.Need-cast-if3
+cast-if3 c = search needs
 
 enum-told-2 : tie.Need-enum-told-2
 enum-told-2 c = search needs
@@ -146,11 +152,13 @@ read-bare-spec =
     returns
     row-of-requires
     add-to
+    cast-if2
     sub-read-interest
     part-read-interest-start
     part-read-interest-end
     read-interest-requires
     returns-2
+    cast-if3
     enum-told-2
     sub-read-data
     part-read-data-start

@@ -1,4 +1,0 @@
-pub mod Ages
-pub mod Pass
-pub mod PassLaws
-pub mod TurnLaws

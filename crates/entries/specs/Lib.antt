@@ -1,3 +1,0 @@
-pub mod View
-pub mod Operations
-pub mod ChangeLaws

@@ -1,0 +1,4 @@
+pub mod Header
+pub mod Name
+pub mod Places
+pub mod Laws

@@ -1,0 +1,10 @@
+pub mod Order
+pub mod Rows
+pub mod Place
+pub mod Number
+pub mod Table
+pub mod Walk
+pub mod Free
+pub mod Cases
+pub mod Choose
+pub mod Moved

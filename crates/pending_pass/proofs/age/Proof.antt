@@ -1,0 +1,101 @@
+-- The loop's invariant is `Passing`, with the handle at the first mark: one law for the start, one for a turn, one for the end.
+use borrow.Author.Needs.{needs}
+use borrow.Author.Tests.{ltb-true, ltb-false}
+use mathlib.Core.Path.{_≡_, sym, _∙_}
+use Rattle.sizes.specs.Sizes.{mostFaces}
+use Rattle.names.specs.Fingerprint.{fingerprint}
+use Rattle.dead.specs.Places.View as dead
+use Rattle.pending_table.specs.Places.View.{view, place, marks, view-most, view-wide, marks-length}
+use Rattle.pending_pass.specs.Places.Pass.{Passing}
+use Rattle.pending_pass.specs.Places.Works.{ageing}
+use Rattle.pending_pass.specs.Laws.Pass.{firstMark, markCount, pass-start, pass-turn, pass-less, pass-end}
+use Rattle.pending_pass.specs.Laws.Works.{pass-ages}
+use Rattle.pending_pass.specs.Laws.Asked.{rows-few}
+use Rattle.pending_pass.proofs.age.Statement.{statement}
+use Rattle.pending_pass.proofs.age.Tie as tie
+
+abbrev Inv-loop : tie.InvT-loop
+Inv-loop names heads₀ recs numbers lines₀ rows₀ start time left₀ pending₀ buried₀ made₀ h₀ heads lines rows left pending buried made h =
+    (place numbers pending h ≡ firstMark (marks numbers pending left))
+    × Passing (ageing (fingerprint start) time)
+    (marks numbers pending₀ left₀) (view names heads₀ recs numbers pending₀) (dead.view lines₀ buried₀) rows₀ made₀
+    (marks numbers pending left) (view names heads recs numbers pending) (dead.view lines buried) rows made
+
+abbrev μ-loop : tie.MeasureT-loop
+μ-loop names heads₀ recs numbers lines₀ rows₀ start time left₀ pending₀ buried₀ made₀ h₀ heads lines rows left pending buried made h =
+    markCount (marks numbers pending left)
+
+has-all-rows-requires : tie.Need-has-all-rows-requires Inv-loop μ-loop
+has-all-rows-requires c κs = search needs
+
+overdue-entries-requires : tie.Need-overdue-entries-requires Inv-loop μ-loop
+overdue-entries-requires c κs = search needs
+
+next-requires : tie.Need-next-requires Inv-loop μ-loop
+next-requires c κs = search needs
+
+loop-holds : tie.Need-loop-holds Inv-loop μ-loop
+loop-holds c = (
+  c .next .ensures .at,
+  pass-start _ _ _ _ _ _ (marks-length mostFaces _ _ _ _ _ _)
+      (c .before .before .before .has-all-rows .ensures),
+)
+
+is-there-requires : tie.Need-is-there-requires Inv-loop μ-loop
+is-there-requires c κs = search needs
+
+rest-requires : tie.Need-rest-requires Inv-loop μ-loop
+rest-requires c κs = search needs
+
+age-turn-requires : tie.Need-age-turn-requires Inv-loop μ-loop
+age-turn-requires c κs = search needs
+
+next-requires-2 : tie.Need-next-requires-2 Inv-loop μ-loop
+next-requires-2 c κs = search needs
+
+loop-less : tie.Need-loop-less Inv-loop μ-loop
+loop-less c =
+    let t = c .before .before .before in
+    let r = t .before .before .before .before in
+    let y = r .before in
+    let x = y .before in
+    let l = x .before .before .loop in
+    pass-less _ _ _ _ _ _ _ _ _ _ _ (l .inv .1) _ (l .inv .0) (ltb-true _ _ (sym (x .is-there .ensures) ∙ y .if1 .taken)) _ _ _
+    (r .rest .ensures) _ _ _ _ (t .age-turn .ensures)
+
+loop-again : tie.Need-loop-again Inv-loop μ-loop
+loop-again c =
+    let t = c .before .before .before in
+    let r = t .before .before .before .before in
+    let y = r .before in
+    let x = y .before in
+    let l = x .before .before .loop in (
+      c .next2 .ensures .at,
+      pass-turn _ _ _ _ _ _ _ _ _ _ _ (l .inv .1) _ (l .inv .0) (ltb-true _ _ (sym (x .is-there .ensures) ∙ y .if1 .taken)) _ _ _
+          (r .rest .ensures) _ _ _ _ (t .age-turn .ensures),
+    )
+
+returns : tie.Need-returns Inv-loop μ-loop
+returns c =
+    let l = c .before .before .before .loop in
+    let p = pass-end _ _ _ _ _ _ _ _ _ _ _ (l .inv .1) _ (l .inv .0) (ltb-false _ _ (sym (c .before .is-there .ensures) ∙ c .if1 .left)) in
+    pass-ages _ _ _ _ _ 0 _ _ _ _ _ (c .before .before .before .before .before .overdue-entries .ensures) p
+    (rows-few _ _ (λ i e p. view-wide mostFaces _ _ _ _ _ i e p .0) (view-most mostFaces _ _ _ _ _))
+
+pub age-spec : {M : Type 1} → statement M
+age-spec =
+    tie.close
+    (tie.spec
+    Inv-loop
+    μ-loop
+    has-all-rows-requires
+    overdue-entries-requires
+    next-requires
+    loop-holds
+    is-there-requires
+    rest-requires
+    age-turn-requires
+    next-requires-2
+    loop-less
+    loop-again
+    returns)

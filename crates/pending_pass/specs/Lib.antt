@@ -1,0 +1,7 @@
+pub mod Ages
+pub mod Lowest
+pub mod Satisfies
+pub mod Closes
+pub mod Asked
+pub mod Places
+pub mod Laws

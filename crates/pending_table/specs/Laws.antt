@@ -1,0 +1,4 @@
+pub mod Row
+pub mod Room
+pub mod Same
+pub mod Handle

@@ -1,0 +1,9 @@
+pub mod Tells
+pub mod Reading
+pub mod Longest
+pub mod Events
+pub mod Tests
+pub mod Answers
+pub mod Exactly
+pub mod Leaves
+pub mod Occur
