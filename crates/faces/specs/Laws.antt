@@ -1,6 +1,6 @@
 pub mod Set
-pub mod View
-pub mod Held
+pub mod Least
 pub mod Slot
+pub mod View
 pub mod Walk
 pub mod Where

@@ -1,17 +1,12 @@
--- What is kept for each face of a set: its slots, for any number n of faces, and their walk from the lowest face up.
+-- What is kept for each face of a set: its slots, for any number n of faces.
 -- Assumes nothing.
 use Prim.Native.Nat.{ℕ}
-use mathlib.Core.List.{List, map}
+use mathlib.Core.List.{List}
 use mathlib.Core.Option.{Option, none, some}
 use Rattle.laws.specs.Pick.{pick}
 use Rattle.laws.specs.Digits.{member}
 use Rattle.laws.specs.Places.Tab.{tab}
-use Rattle.records.specs.Slots.{held}
 
 -- a slot for each of n faces: what g has for their digits, for those in a set
 unfoldable pub slotsOf : {A : Type 0} → ℕ → ℕ → (ℕ → A) → List (Option A)
 slotsOf n s g = tab (λ i. pick (member i s) (some (g i)) none) 0 n
-
--- the faces of a set, by ascending face
-unfoldable pub facesIn : ℕ → ℕ → List ℕ
-facesIn n s = map (λ h. h .face) (held (slotsOf n s (λ i. i)))

@@ -2,7 +2,7 @@
 -- tables at the end. Nothing stands on it: the claims of generated tapes are made over it, and compared with the independent program.
 -- Assumes nothing.
 use Prim.Native.Nat.{ℕ, suc}
-use mathlib.Core.Bool.{Bool, true, false}
+use mathlib.Core.Bool.{Bool}
 use mathlib.Core.List.{List, [], _∷_, _++_, map}
 use mathlib.Core.Option.{Option, none, some}
 use lib.ListN.{length}
@@ -16,7 +16,6 @@ use Rattle.records.specs.Route.{Route}
 use Rattle.records.specs.Entry.{Request, Sent, Entry}
 use Rattle.records.specs.Stored.{Stored}
 use Rattle.records.specs.Line.{Line}
-use Rattle.records.specs.Happening.{Happening}
 use Rattle.records.specs.Rows.{fateNumber, rowOf}
 use Rattle.rules.specs.Node.{Node, emptyNode, What, Event}
 use Rattle.rules.specs.Outcome.{kindNumber, Send, Outcome}

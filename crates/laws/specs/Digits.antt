@@ -1,4 +1,4 @@
--- Sets of small numbers as the binary digits of a number: membership, a member more or less, the size, the lowest member.
+-- Sets of small numbers as the binary digits of a number: membership, a member more or less.
 -- Assumes nothing.
 use Prim.Native.Nat.{ℕ, zero, suc, _+_, _-_, _/_, _%_, _^_}
 use mathlib.Core.Bool.{Bool}

@@ -1,4 +1,4 @@
--- Whether something holds of some element of a list.
+-- Lists: whether something holds of some element, an element changed or taken out, the place of the first that a test holds of.
 -- Assumes nothing.
 use mathlib.Core.Bool.{Bool, false, _||_}
 use mathlib.Core.List.{List, [], _∷_}

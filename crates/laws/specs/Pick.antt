@@ -1,4 +1,4 @@
--- A choice by a test, and what holds of it.
+-- A choice by a test.
 -- Assumes nothing.
 use mathlib.Core.Bool.{Bool, true, false}
 

@@ -37,7 +37,7 @@ ghost use Rattle.pending_entry.specs.Operations.{requestIn, askingFaces, sentFa
 ghost use Rattle.pending_entry.specs.Places.View as entry;
 ghost use Rattle.pending_records.specs.Operations.{overdueFaces, nacksIn, nacksOf, noted, notedBy, fateBy, notedOne, Joins};
 ghost use Rattle.records.specs.Closing.{ownLineBy};
-ghost use Rattle.pending_table.specs.Places.View.{before, after, placeOf, marksOf, entryOf};
+ghost use Rattle.pending_table.specs.Places.View.{before, after, placeOf, marksOf, entryAt};
 ghost use Rattle.pending_handle.specs.Operations.{isDue};
 
 // The table of heads has all its rows. It is said of a value, since of what stands behind a reference no length is known.
@@ -171,7 +171,7 @@ pub fn age(
     time: u64,
 ) -> u64
     ensures { λ _. ⌜ after names heads recs numbers s ≡ onAt (placeOf numbers s h) (agedEntry time) (before names heads recs numbers s) ⌝ }
-    ensures { λ r. ⌜ r ≡ given 0 (overdueFaces mostFaces time) (entryOf names heads recs numbers s h) ⌝ }
+    ensures { λ r. ⌜ r ≡ given 0 (overdueFaces mostFaces time) (entryAt names heads recs numbers s h) ⌝ }
 {
     let row = row_of(s, h);
     if row < ENTRIES {
@@ -191,7 +191,7 @@ pub fn asking_faces(
     s: Pending,
     h: Handle,
 ) -> u64
-    ensures { λ r. ⌜ r ≡ given 0 (askingFaces mostFaces) (entryOf names heads recs numbers s h) ⌝ }
+    ensures { λ r. ⌜ r ≡ given 0 (askingFaces mostFaces) (entryAt names heads recs numbers s h) ⌝ }
 {
     let row = row_of(s, h);
     if row < ENTRIES {
@@ -209,7 +209,7 @@ pub fn sent_faces(
     s: Pending,
     h: Handle,
 ) -> u64
-    ensures { λ r. ⌜ r ≡ given 0 (sentFaces mostFaces) (entryOf names heads recs numbers s h) ⌝ }
+    ensures { λ r. ⌜ r ≡ given 0 (sentFaces mostFaces) (entryAt names heads recs numbers s h) ⌝ }
 {
     let row = row_of(s, h);
     if row < ENTRIES {
@@ -228,7 +228,7 @@ pub fn unsent(
     h: Handle,
     set: u64,
 ) -> u64
-    ensures { λ r. ⌜ r ≡ given 0 (unsentOf mostFaces set) (entryOf names heads recs numbers s h) ⌝ }
+    ensures { λ r. ⌜ r ≡ given 0 (unsentOf mostFaces set) (entryAt names heads recs numbers s h) ⌝ }
 {
     let row = row_of(s, h);
     if row < ENTRIES {
@@ -246,7 +246,7 @@ pub fn is_idle(
     s: Pending,
     h: Handle,
 ) -> bool
-    ensures { λ r. ⌜ r ≡ given true isIdle (entryOf names heads recs numbers s h) ⌝ }
+    ensures { λ r. ⌜ r ≡ given true isIdle (entryAt names heads recs numbers s h) ⌝ }
 {
     let row = row_of(s, h);
     if row < ENTRIES {
@@ -266,7 +266,7 @@ pub fn own_nonce(
     face: usize,
     nonce: u64,
 ) -> bool
-    ensures { λ r. ⌜ r ≡ given false (ownNonce face nonce) (entryOf names heads recs numbers s h) ⌝ }
+    ensures { λ r. ⌜ r ≡ given false (ownNonce face nonce) (entryAt names heads recs numbers s h) ⌝ }
 {
     let row = row_of(s, h);
     if row < ENTRIES {
@@ -286,7 +286,7 @@ pub fn sent_nonce(
     face: usize,
     nonce: u64,
 ) -> bool
-    ensures { λ r. ⌜ r ≡ given false (sentNonce face nonce) (entryOf names heads recs numbers s h) ⌝ }
+    ensures { λ r. ⌜ r ≡ given false (sentNonce face nonce) (entryAt names heads recs numbers s h) ⌝ }
 {
     let row = row_of(s, h);
     if row < ENTRIES {
@@ -305,7 +305,7 @@ pub fn request_of(
     h: Handle,
     face: usize,
 ) -> Asked
-    ensures { λ r. ⌜ requestIn r ≡ given none (λ e. slot face (e .requests)) (entryOf names heads recs numbers s h) ⌝ }
+    ensures { λ r. ⌜ requestIn r ≡ given none (λ e. slot face (e .requests)) (entryAt names heads recs numbers s h) ⌝ }
 {
     let row = row_of(s, h);
     if row < ENTRIES {
@@ -324,7 +324,7 @@ pub fn overdue(
     h: Handle,
     time: u64,
 ) -> u64
-    ensures { λ r. ⌜ r ≡ given 0 (overdueFaces mostFaces time) (entryOf names heads recs numbers s h) ⌝ }
+    ensures { λ r. ⌜ r ≡ given 0 (overdueFaces mostFaces time) (entryAt names heads recs numbers s h) ⌝ }
 {
     let row = row_of(s, h);
     if row < ENTRIES {
@@ -343,7 +343,7 @@ pub fn has_nonce(
     h: Handle,
     nonce: u64,
 ) -> bool
-    ensures { λ r. ⌜ r ≡ given false (hasNonce nonce) (entryOf names heads recs numbers s h) ⌝ }
+    ensures { λ r. ⌜ r ≡ given false (hasNonce nonce) (entryAt names heads recs numbers s h) ⌝ }
 {
     let row = row_of(s, h);
     if row < ENTRIES {
@@ -362,7 +362,7 @@ pub fn is_suppressed(
     h: Handle,
     time: u64,
 ) -> bool
-    ensures { λ r. ⌜ r ≡ given false (isSuppressed time) (entryOf names heads recs numbers s h) ⌝ }
+    ensures { λ r. ⌜ r ≡ given false (isSuppressed time) (entryAt names heads recs numbers s h) ⌝ }
 {
     let row = row_of(s, h);
     if row < ENTRIES {
@@ -381,7 +381,7 @@ pub fn earliest(
     h: Handle,
     set: u64,
 ) -> usize
-    ensures { λ r. ⌜ r ≡ given 0 (λ e. given 0 (λ f. f) (earliestOf (hasFace mostFaces set) e)) (entryOf names heads recs numbers s h) ⌝ }
+    ensures { λ r. ⌜ r ≡ given 0 (λ e. given 0 (λ f. f) (earliestOf (hasFace mostFaces set) e)) (entryAt names heads recs numbers s h) ⌝ }
 {
     let row = row_of(s, h);
     if row < ENTRIES {
@@ -399,7 +399,7 @@ pub fn all_nacked(
     s: Pending,
     h: Handle,
 ) -> Nacks
-    ensures { λ r. ⌜ nacksIn r ≡ given none nacksOf (entryOf names heads recs numbers s h) ⌝ }
+    ensures { λ r. ⌜ nacksIn r ≡ given none nacksOf (entryAt names heads recs numbers s h) ⌝ }
 {
     let row = row_of(s, h);
     if row < ENTRIES {
@@ -421,7 +421,7 @@ pub fn bury(
     start: u64,
     time: u64,
 ) -> Ring
-    ensures { λ r. ⌜ Joins lines r ring (given [] (buriedBy (fingerprint start) time) (entryOf names heads recs numbers s h)) ⌝ }
+    ensures { λ r. ⌜ Joins lines r ring (given [] (buriedBy (fingerprint start) time) (entryAt names heads recs numbers s h)) ⌝ }
 {
     let row = row_of(s, h);
     if row < ENTRIES {
@@ -452,7 +452,7 @@ pub fn bury_face(
     time: u64,
     face: usize,
 ) -> Ring
-    ensures { λ r. ⌜ Joins lines r ring (given [] (ownLineBy (fingerprint start) time face) (entryOf names heads recs numbers s h)) ⌝ }
+    ensures { λ r. ⌜ Joins lines r ring (given [] (ownLineBy (fingerprint start) time face) (entryAt names heads recs numbers s h)) ⌝ }
 {
     let row = row_of(s, h);
     if row < ENTRIES {
@@ -484,7 +484,7 @@ pub fn note_requests(
     fate: Fate,
 ) -> usize
     ensures { λ r. ⌜ ((t : ℕ)
-        → Noted rows r at (given [] (noted (fateIn fate) t (hasFace mostFaces set)) (entryOf names heads recs numbers s h))) ⌝ }
+        → Noted rows r at (given [] (noted (fateIn fate) t (hasFace mostFaces set)) (entryAt names heads recs numbers s h))) ⌝ }
 {
     let row = row_of(s, h);
     if row < ENTRIES {
@@ -510,7 +510,7 @@ pub fn note_by_face(
 ) -> usize
     ensures { λ r. ⌜ ((t : ℕ)
         → Noted rows r at (given [] (notedBy (fateBy mostFaces special own fate) t (hasFace mostFaces set))
-        (entryOf names heads recs numbers s h))) ⌝ }
+        (entryAt names heads recs numbers s h))) ⌝ }
 {
     let row = row_of(s, h);
     if row < ENTRIES {
@@ -541,7 +541,7 @@ pub fn note_face(
     face: usize,
     fate: Fate,
 ) -> usize
-    ensures { λ r. ⌜ ((t : ℕ) → Noted rows r at (given [] (notedOne (fateIn fate) t face) (entryOf names heads recs numbers s h))) ⌝ }
+    ensures { λ r. ⌜ ((t : ℕ) → Noted rows r at (given [] (notedOne (fateIn fate) t face) (entryAt names heads recs numbers s h))) ⌝ }
 {
     let row = row_of(s, h);
     if row < ENTRIES {

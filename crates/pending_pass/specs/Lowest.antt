@@ -23,9 +23,9 @@ unfoldable pub isAsked : List Entry → ℕ → Bool
 isAsked es f = isSome (classOn f es)
 
 -- whether a request on a face is self-met by Data from f: "those on the arrival face as self-met, unless that face is ad hoc"
-unfoldable pub isSelfMet : ℕ → Bool → ℕ → Bool
-isSelfMet f adHoc h = eqb h f && not adHoc
+unfoldable pub meetsOwn : ℕ → Bool → ℕ → Bool
+meetsOwn f adHoc h = eqb h f && not adHoc
 
 -- whether a copy of Data from f, which ends the requests of some entries, goes to a face
 unfoldable pub isOwed : ℕ → Bool → List Entry → ℕ → Bool
-isOwed f adHoc es h = isAsked es h && not (isSelfMet f adHoc h)
+isOwed f adHoc es h = isAsked es h && not (meetsOwn f adHoc h)

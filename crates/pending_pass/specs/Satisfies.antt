@@ -14,11 +14,11 @@ use Rattle.records.specs.Happening.{Fate, answered, selfMet, Happening, happens
 use Rattle.records.specs.Rows.{rowOf}
 use Rattle.records.specs.Ageing.{buriedBy}
 use Rattle.happenings.specs.Noted.{mostRows, Notes}
-use Rattle.pending_pass.specs.Lowest.{classWords, isSelfMet, isOwed}
+use Rattle.pending_pass.specs.Lowest.{classWords, meetsOwn, isOwed}
 
 -- how a request on a face ends by Data from f
 unfoldable pub dataFate : ℕ → Bool → ℕ → Fate
-dataFate f adHoc h = pick (isSelfMet f adHoc h) selfMet answered
+dataFate f adHoc h = pick (meetsOwn f adHoc h) selfMet answered
 
 -- "end every request": the ends of an entry's requests, by face
 unfoldable pub endsBy : (ℕ → Fate) → ℕ → Entry → List Happening

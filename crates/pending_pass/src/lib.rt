@@ -51,11 +51,11 @@ ghost use Rattle.dead.specs.Places.View as dead;
 ghost use Rattle.happenings.specs.Noted.{mostRows};
 ghost use Rattle.pending_table.specs.Places.View.{before, after, placeOf, marksOf, marksThen};
 ghost use Rattle.pending_pass.specs.Ages.{Ages};
-ghost use Rattle.pending_pass.specs.Lowest.{isSelfMet};
+ghost use Rattle.pending_pass.specs.Lowest.{meetsOwn};
 ghost use Rattle.pending_pass.specs.Satisfies.{dataFate, Satisfies};
 ghost use Rattle.pending_pass.specs.Closes.{Closes};
 ghost use Rattle.pending_pass.specs.Places.Pass.{marked, Turned, Leaves, Passes};
-ghost use Rattle.pending_pass.specs.Places.Works.{ageing, satisfying, closing};
+ghost use Rattle.pending_pass.specs.Places.Works.{ageingWork, satisfyingWork, closingWork};
 ghost use Rattle.pending_pass.specs.Places.Lowering.{lowerWord, Lowers, Lowest};
 
 // The pending table and the dead nonce list's ring after a turn or a pass, and how many happenings are noted then.
@@ -134,7 +134,7 @@ fn age_turn(
     time: u64,
 ) -> Passed
     ensures { λ r. ⌜ ((e : Entry) → atPlace (placeOf numbers s h) (before names heads recs numbers s) ≡ some e
-        → Turned (ageing (fingerprint start) time) (placeOf numbers s h) e
+        → Turned (ageingWork (fingerprint start) time) (placeOf numbers s h) e
         (before names heads recs numbers s) (marksOf numbers s) (dead.view (now (lines .entry)) ring) (now (rows .entry)) made
         (after names heads recs numbers (r .pending)) (marksThen numbers (r .pending)) (dead.view (now (lines .exit)) (r .ring))
         (now (rows .exit)) (r .made)) ⌝ }
@@ -233,7 +233,7 @@ fn close_turn(
     face: usize,
 ) -> Passed
     ensures { λ r. ⌜ ((e : Entry) → atPlace (placeOf numbers s h) (before names heads recs numbers s) ≡ some e
-        → Turned (closing (fingerprint start) time face) (placeOf numbers s h) e
+        → Turned (closingWork (fingerprint start) time face) (placeOf numbers s h) e
         (before names heads recs numbers s) (marksOf numbers s) (dead.view (now (lines .entry)) ring) (now (rows .entry)) made
         (after names heads recs numbers (r .pending)) (marksThen numbers (r .pending)) (dead.view (now (lines .exit)) (r .ring))
         (now (rows .exit)) (r .made)) ⌝ }
@@ -332,7 +332,7 @@ pub fn close_face(
 
 // The faces where a request is self-met by Data from a face: "those on the arrival face as self-met, unless that face is ad hoc".
 fn self_met(face: usize, adhoc: bool) -> u64
-    ensures { λ r. ⌜ ((g : ℕ) → isFace mostFaces g ≡ true → hasFace mostFaces r g ≡ isSelfMet face adhoc g) ⌝ }
+    ensures { λ r. ⌜ ((g : ℕ) → isFace mostFaces g ≡ true → hasFace mostFaces r g ≡ meetsOwn face adhoc g) ⌝ }
 {
     if adhoc {
         return 0;
@@ -358,7 +358,7 @@ fn meet_turn(
     adhoc: bool,
 ) -> Passed
     ensures { λ r. ⌜ ((e : Entry) → atPlace (placeOf numbers s h) (before names heads recs numbers s) ≡ some e
-        → Turned (satisfying (fingerprint start) time (dataFate face adhoc)) (placeOf numbers s h) e
+        → Turned (satisfyingWork (fingerprint start) time (dataFate face adhoc)) (placeOf numbers s h) e
         (before names heads recs numbers s) (marksOf numbers s) (dead.view (now (lines .entry)) ring) (now (rows .entry)) made
         (after names heads recs numbers (r .pending)) (marksThen numbers (r .pending)) (dead.view (now (lines .exit)) (r .ring))
         (now (rows .exit)) (r .made)) ⌝ }
@@ -404,7 +404,7 @@ fn meet_chosen(
     face: usize,
     adhoc: bool,
 ) -> Passed
-    ensures { λ r. ⌜ Passes (satisfying (fingerprint start) time (dataFate face adhoc)) (marksOf numbers s chosen)
+    ensures { λ r. ⌜ Passes (satisfyingWork (fingerprint start) time (dataFate face adhoc)) (marksOf numbers s chosen)
         (before names heads recs numbers s) (dead.view (now (lines .entry)) ring) (now (rows .entry)) made
         (after names heads recs numbers (r .pending)) (dead.view (now (lines .exit)) (r .ring)) (now (rows .exit)) (r .made) ⌝ }
 {

@@ -38,7 +38,7 @@ ghost use Rattle.records.specs.Slots.{given};
 ghost use Rattle.records.specs.Entry.{isKnown, matches, roomTaken};
 ghost use Rattle.pending_entry.specs.Places.View as entry;
 ghost use Rattle.pending_entry.specs.Operations.{bareEntry};
-ghost use Rattle.pending_table.specs.Places.View.{view, before, after, entryOf, rowOf, placeOf, placeThen, handleOf, marksOf};
+ghost use Rattle.pending_table.specs.Places.View.{view, before, after, entryAt, rowHeld, placeOf, placeThen, handleOf, marksOf};
 ghost use Rattle.pending_table.specs.Places.View.{marksThen};
 ghost use Rattle.pending_table.specs.Places.Room.{counting, allOf, roomOf};
 ghost use Rattle.pending_table.specs.Operations.{Finds, Opens, TakesOut, nothing, factsOf, usesOf};
@@ -166,7 +166,7 @@ pub fn find(
 
 // The row of a handle's entry, for what stands in that row of the caller's arrays; past the last row where it has none.
 pub fn row_of(s: Pending, h: Handle) -> usize
-    ensures { λ r. ⌜ r ≡ rowOf s h ⌝ }
+    ensures { λ r. ⌜ r ≡ rowHeld s h ⌝ }
 {
     if has(s.used, h.row) {
         return h.row;
@@ -281,7 +281,7 @@ pub fn name_of<'a>(
     s: Pending,
     h: Handle,
 ) -> &'a [u8]
-    ensures { λ r. ⌜ now r ≡ given [] (λ e. e .name) (entryOf names heads recs numbers s h) ⌝ }
+    ensures { λ r. ⌜ now r ≡ given [] (λ e. e .name) (entryAt names heads recs numbers s h) ⌝ }
 {
     let row = row_of(s, h);
     if row < ENTRIES {
@@ -299,7 +299,7 @@ pub fn facts_of(
     s: Pending,
     h: Handle,
 ) -> Facts
-    ensures { λ r. ⌜ r ≡ given nothing factsOf (entryOf names heads recs numbers s h) ⌝ }
+    ensures { λ r. ⌜ r ≡ given nothing factsOf (entryAt names heads recs numbers s h) ⌝ }
 {
     let row = row_of(s, h);
     if row < ENTRIES {

@@ -1,7 +1,7 @@
 -- Document 01, "Faces and routes": "Opening gives scope and link type (point-to-point, multi-access, ad hoc)."
 -- Assumes nothing.
 use Prim.Native.Nat.{ℕ}
-use mathlib.Core.Bool.{Bool, true, false, _&&_}
+use mathlib.Core.Bool.{Bool, _&&_}
 use mathlib.Core.List.{List}
 use mathlib.Core.Option.{Option}
 use lib.Dec.{leb, eqb}

@@ -43,8 +43,8 @@ unfoldable pub badFace : ℕ → Node → What → Bool
 badFace faces n w = holds (λ f. not (isFace faces f && (opensFace w || isOpen (n .faces) f))) (faceIn w)
 
 -- an outcome after the requests that expired in ageing, which happened first
-unfoldable pub after : List Happening → Outcome → Outcome
-after hs o = record { answer = o .answer; node = o .node; sends = o .sends; happenings = hs ++ o .happenings }
+unfoldable pub afterAgeing : List Happening → Outcome → Outcome
+afterAgeing hs o = record { answer = o .answer; node = o .node; sends = o .sends; happenings = hs ++ o .happenings }
 
 -- "time below the last accepted time, or above 2^53"
 unfoldable pub badTime : Node → ℕ → Bool
@@ -56,7 +56,7 @@ step faces least e n =
     pick (badTime n (e .time)) (quiet Answer.Clock n)
     (pick (ltb (e .room) least) (quiet Answer.SmallBuffer n)
     (pick (badFace faces n (e .what)) (quiet Answer.BadFace n)
-    (after (ageing (e .time) n) (whatStep faces (e .time) (aged (e .time) n) (e .what)))))
+    (afterAgeing (ageing (e .time) n) (whatStep faces (e .time) (aged (e .time) n) (e .what)))))
 
 -- the node after events, one after the other
 unfoldable pub run : ℕ → ℕ → List Event → Node → Node

@@ -1,7 +1,7 @@
 -- Document 01, "Reading packets": elements, one after the other, over a list of bytes.
 -- Assumes nothing.
 use Prim.Native.Nat.{ℕ, zero, suc}
-use mathlib.Core.Bool.{Bool, true, false}
+use mathlib.Core.Bool.{Bool}
 use mathlib.Core.List.{List, [], _∷_}
 use lib.ListN.{length, take, drop}
 use lib.Dec.{ltb, eqb}
@@ -61,6 +61,6 @@ module _ {A : Type 0} (keep : ℕ → List ℕ → List ℕ → A) where
   unfolding onward atMost
   elements l = atMost (length l) l
 
--- "the packet at the last byte": nothing is left after the elements
+-- "Each element ends within its parent": nothing is left after the elements
 unfoldable pub ended : {A : Type 0} → Split A → Bool
 ended p = eqb (length (p .rest)) 0

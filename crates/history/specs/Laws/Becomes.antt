@@ -28,7 +28,7 @@ use Rattle.rules.specs.Interest.{Arrival, eligible, entryOf, newEntry, noRoom, 
 use Rattle.rules.specs.Data.{satisfies, dataStep}
 use Rattle.rules.specs.Nack.{sentBack, endsByNack, nackedEntry, nackStep}
 use Rattle.rules.specs.Command.{faceOf, byPrefix, openStep, closeStep, setRouteStep, onRoute, dropRouteStep, addHopStep, dropHopStep}
-use Rattle.rules.specs.Step.{arrives, whatStep, badFace, after, badTime, step}
+use Rattle.rules.specs.Step.{arrives, whatStep, badFace, afterAgeing, badTime, step}
 use Rattle.history.specs.Classes.{isDone}
 
 -- a packet that holds an Interest: what it asks, and its bytes as it leaves
@@ -292,7 +292,7 @@ module _ (faces least : ℕ) (e : Event) (n : Node) where
   pub data Becomes : Outcome → Type 0 where
     ignored : (a : Answer) → isDone a ≡ false → Becomes (quiet a n)
     taken : (o : Outcome) → badTime n (e .time) ≡ false → badFace faces n (e .what) ≡ false
-        → Past faces (e .time) (aged (e .time) n) (e .what) o → Becomes (after (ageing (e .time) n) o)
+        → Past faces (e .time) (aged (e .time) n) (e .what) o → Becomes (afterAgeing (ageing (e .time) n) o)
 
   -- each event comes to one of these
   pub becomes : Becomes (step faces least e n)

@@ -26,7 +26,7 @@ use Rattle.rules.specs.Interest.{Arrival, sendsOn, renews, forwards, opensEntry
 use Rattle.rules.specs.Data.{satisfies}
 use Rattle.rules.specs.Nack.{peersOf, nackOf, endsByNack}
 use Rattle.rules.specs.Command.{closeStep}
-use Rattle.rules.specs.Step.{paperStep, after, step}
+use Rattle.rules.specs.Step.{paperStep, afterAgeing, step}
 use Rattle.rules.specs.Packed.{packs, packedFrom, packed}
 use Rattle.history.specs.Lists.{All, nothing, both}
 use Rattle.history.specs.Laws.Every.{all-mono, all-any, all-map, all-in, at-in}
@@ -169,7 +169,7 @@ module _ (faces : ℕ) (e : Event) (n : Node) (s : Shaped faces n) where
 module _ (faces least : ℕ) where
   -- whatever an event comes to
   by-case : (e : Event) (n : Node) (o : Outcome) → Becomes faces least e n o → Shaped faces n → Batch faces (o .sends)
-  unfolding quiet after
+  unfolding quiet afterAgeing
   by-case e n o (ignored a d) s = empty
   by-case e n o (taken p t f k) s = past-batch faces e (aged (e .time) n) (aged-shaped faces (e .time) n s) (e .what) p k
 

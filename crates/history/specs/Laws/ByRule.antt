@@ -21,7 +21,7 @@ use Rattle.rules.specs.Interest.{Arrival, entryOf, opensEntry, served, asksAgai
 use Rattle.rules.specs.Data.{satisfies}
 use Rattle.rules.specs.Nack.{endsByNack}
 use Rattle.rules.specs.Command.{faceOf, closeStep}
-use Rattle.rules.specs.Step.{badFace, after, step}
+use Rattle.rules.specs.Step.{badFace, afterAgeing, step}
 use Rattle.history.specs.Laws.Becomes.{arrival, asked, brought, GoodFace, good-face, aged-face, Past, Becomes, ignored, taken, becomes}
 use Rattle.history.specs.Laws.Becomes as case
 
@@ -80,7 +80,7 @@ by-past faces now n P r w o fine (case.dropsHop f p a) = r .setsHop _ f none
 -- the case analysis: P holds of a step where it holds of the answers 1 to 3, which change nothing, and where it follows for an outcome
 -- after ageing from some Q that holds of each rule's outcome
 pub by-rule : (faces least : ℕ) (e : Event) (n : Node) (P Q : Outcome → Type 0) → ((x : Answer) → P (quiet x n))
-    → Rules faces (e .time) (aged (e .time) n) Q → ((o : Outcome) → Q o → P (after (ageing (e .time) n) o)) → P (step faces least e n)
+    → Rules faces (e .time) (aged (e .time) n) Q → ((o : Outcome) → Q o → P (afterAgeing (ageing (e .time) n) o)) → P (step faces least e n)
 by-rule faces least e n P Q q r j = go (step faces least e n) (becomes faces least e n)
   where
     go : (o : Outcome) → Becomes faces least e n o → P o

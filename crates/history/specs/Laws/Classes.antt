@@ -25,7 +25,7 @@ use Rattle.rules.specs.Data.{satisfies}
 use Rattle.rules.specs.Nack.{settled, endsByNack}
 use Rattle.rules.specs.Command.{closeStep}
 use Rattle.records.specs.Closing.{withoutFace}
-use Rattle.rules.specs.Step.{after, step, run}
+use Rattle.rules.specs.Step.{afterAgeing, step, run}
 use Rattle.history.specs.Laws.Every.{not-none, all-mono, all-only, all-map, all-snoc, all-onAt, all-without, all-in, all-and}
 use Rattle.history.specs.Lists.{All, nothing, both, In, here, there, Apart, alone, among}
 use Rattle.history.specs.Laws.Apart.{none-found}
@@ -256,7 +256,7 @@ own-class (among {a = r} {l = rs} d h) =
 module _ (faces least : ℕ) where
   -- whatever an event comes to, the classes are among the three
   class-case : (e : Event) (n : Node) (o : Outcome) → Becomes faces least e n o → Classed n → Classed (o .node)
-  unfolding quiet after
+  unfolding quiet afterAgeing
   class-case e n o (ignored a d) k = k
   class-case e n o (taken p t f b) k = past-classed faces (e .time) (aged (e .time) n) (aged-classed (e .time) n k) (e .what) p b
 
@@ -274,7 +274,7 @@ module _ (faces least : ℕ) where
   -- whatever an event comes to, the class of a prefix is what the event made of it
   given-case : (p : List ℕ) (e : Event) (n : Node) (o : Outcome) → Becomes faces least e n o → Shaped faces n
       → classAt p (o .node .routes) ≡ pick (isDone (o .answer)) (givenBy p (e .what) (classAt p (n .routes))) (classAt p (n .routes))
-  unfolding quiet after pick aged
+  unfolding quiet afterAgeing pick aged
   given-case p e n o (ignored a d) s = rw d
   given-case p e n o (taken x t f b) s = past-class p faces (e .time) (aged (e .time) n) (s .routes .apart) (e .what) x b
 

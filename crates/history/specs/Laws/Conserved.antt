@@ -13,7 +13,7 @@ use Rattle.records.specs.Entry.{Entry}
 use Rattle.rules.specs.Node.{Node, Event, emptyNode}
 use Rattle.rules.specs.Outcome.{quiet}
 use Rattle.rules.specs.Ageing.{aged, ageing}
-use Rattle.rules.specs.Step.{after, step, run, history}
+use Rattle.rules.specs.Step.{afterAgeing, step, run, history}
 use Rattle.history.specs.Lists.{howMany}
 use Rattle.history.specs.Key.{Key, isFate, isEnd, counted, ended, openNow, ofFace, Accounted}
 use Rattle.history.specs.Laws.ByRule.{by-rule}
@@ -65,7 +65,7 @@ module _ (p : Key → Bool) where
   -- every step balances, from any node of the shape that the empty node has and every step keeps
   pub step-balanced : (faces least : ℕ) (e : Event) (n : Node) → Shaped faces n
       → Balanced p (n .pending) (step faces least e n .happenings) (step faces least e n .node .pending)
-  unfolding quiet after
+  unfolding quiet afterAgeing
   step-balanced faces least e n s =
       let t = e .time in
       by-rule faces least e n (λ o. Balanced p (n .pending) (o .happenings) (o .node .pending))

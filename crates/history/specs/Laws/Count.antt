@@ -12,7 +12,6 @@ use lib.Dec.{eqb}
 use borrow.Author.Tests.{eqb-true, ne-eqb}
 use Rattle.laws.specs.Pick.{pick}
 use Rattle.laws.specs.Laws.Pick.{pick-ind}
-use Rattle.laws.specs.Lists.{onAt, without}
 use Rattle.records.specs.Slots.{noSlots, slot, setSlot, emptiedFrom, isSome, Held, heldFrom, anyOf, only, isEmpty}
 use Rattle.records.specs.Laws.Slot.{slot-no-slots}
 use Rattle.records.specs.Entry.{Request, isLive, ifLive}
@@ -72,20 +71,6 @@ module _ {A : Type 0} where
   howMany-only p q (a ∷ l) =
       pick-ind (λ (r : List A). howMany p r ≤ one (p a) + howMany p l) (q a) _ _ (λ _. omega (arith, howMany-only p q l))
       (λ _. omega (arith, howMany-only p q l))
-
-  -- with one taken out, no more
-  pub howMany-without : (p : A → Bool) (i : ℕ) (l : List A) → howMany p (without i l) ≤ howMany p l
-  unfolding howMany without
-  howMany-without p i [] = omega arith
-  howMany-without p zero (a ∷ l) = omega arith
-  howMany-without p (suc i) (a ∷ l) = omega (arith, howMany-without p i l)
-
-  -- with one changed that p says the same of, as many
-  pub howMany-onAt : (p : A → Bool) (i : ℕ) (f : A → A) → ((a : A) → p (f a) ≡ p a) → (l : List A) → howMany p (onAt i f l) ≡ howMany p l
-  unfolding howMany onAt
-  howMany-onAt p i f e [] = refl
-  howMany-onAt p zero f e (a ∷ l) = rw (e a)
-  howMany-onAt p (suc i) f e (a ∷ l) = omega (arith, howMany-onAt p i f e l)
 
 -- at most one element counts: 1 where there is one
 pub howMany-any : {A : Type 0} (p : A → Bool) (l : List A) → howMany p l ≤ 1 → howMany p l ≡ one (anyOf p l)

@@ -21,7 +21,7 @@ use Rattle.rules.specs.Data.{isSelfMet, fateOf, dataEnds, satisfies}
 use Rattle.rules.specs.Nack.{peersOf, nackOf, endsByNack}
 use Rattle.rules.specs.Command.{closeStep}
 use Rattle.records.specs.Closing.{closingEnds}
-use Rattle.rules.specs.Step.{badFace, after, step}
+use Rattle.rules.specs.Step.{badFace, afterAgeing, step}
 use Rattle.history.specs.Laws.Every.{only-in, all-any, all-mono, all-only, only-test, all-and, all-append, all-map, all-each, all-own, all-in, some-mono, some-map}
 use Rattle.history.specs.Lists.{All, nothing, both, In}
 use Rattle.history.specs.Laws.Holding.{held-slot, slot-held, slot-within}
@@ -77,7 +77,7 @@ opens-honest e o f l came q x k d = record {
 
 -- what an event comes to, its expiries first
 abbrev whole : Event → Node → Outcome → Outcome
-whole e n o = after (ageing (e .time) n) o
+whole e n o = afterAgeing (ageing (e .time) n) o
 
 -- what a Data that came on face f comes to
 abbrev brought-to : Event → Node → ℕ → {l : List ℕ} → HoldsData l → Outcome
@@ -114,7 +114,7 @@ module _ (faces : ℕ) (e : Event) (n : Node) (s : Shaped faces n) (f : ℕ) (l 
   -- it ends as answered
   copy-honest : isSelfMet (aged (e .time) n) f (h .face) ≡ false
       → Honest e (whole e n (brought-to e n f q)) (happens answered (e .time) x h)
-  unfolding happens satisfies after isSome
+  unfolding happens satisfies afterAgeing isSome
   copy-honest a =
       let t = aged-shaped faces (e .time) n s in
       let was = all-in (only-in (matches (brought q .name)) (aged (e .time) n .pending)) i .0 in
@@ -157,7 +157,7 @@ module _ (faces : ℕ) (e : Event) (n : Node) (s : Shaped faces n) where
   nack-honest : (f : ℕ) (l : List ℕ) → e .what ≡ packet f l → (q : HoldsNack l) (x : Entry)
       → atPlace (entryOf (aged (e .time) n) (denied q)) (aged (e .time) n .pending) ≡ some x
       → All (Honest e (whole e n (refusing e n f q x))) (refusing e n f q x .happenings)
-  unfolding endsByNack after peersOf withNack withSent happens nackOf
+  unfolding endsByNack afterAgeing peersOf withNack withSent happens nackOf
   nack-honest f l came q x a =
       all-map (happens nacked (e .time) y)
       (all-mono (λ h p. record {
@@ -211,7 +211,7 @@ module _ (faces : ℕ) (e : Event) (n : Node) (s : Shaped faces n) where
   -- whatever an event comes to past the first three checks
   past-honest : (w : What) (o : Outcome) → e .what ≡ w → badFace faces n w ≡ false → Past faces (e .time) (aged (e .time) n) w o
       → All (Honest e (whole e n o)) (o .happenings)
-  unfolding quiet nackFor served opensEntry asksAgain renews sendsOn newEntry after badFace holds faceIn opensFace
+  unfolding quiet nackFor served opensEntry asksAgain renews sendsOn newEntry afterAgeing badFace holds faceIn opensFace
   past-honest w o came fine (case.refused f l a) = nothing
   past-honest w o came fine (case.turnedAway v a d) = nothing
   past-honest w o came fine case.ticked = nothing
@@ -236,7 +236,7 @@ module _ (faces : ℕ) (e : Event) (n : Node) (s : Shaped faces n) where
 module _ (faces least : ℕ) where
   -- whatever an event comes to
   by-case : (e : Event) (n : Node) (o : Outcome) → Becomes faces least e n o → Shaped faces n → All (Honest e o) (o .happenings)
-  unfolding quiet after
+  unfolding quiet afterAgeing
   by-case e n o (ignored a d) s = nothing
   by-case e n o (taken p t f k) s = all-append (ageing-honest e _ n) (past-honest faces e n s (e .what) p refl f k)
 

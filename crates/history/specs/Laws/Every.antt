@@ -7,7 +7,6 @@ use mathlib.Core.List.{List, [], _∷_, _++_, map}
 use mathlib.Core.Option.{none, some}
 use lib.ListN.{drop, getElem?}
 use native.Mathlib.Omega.{arith}
-use Rattle.laws.specs.Pick.{pick}
 use Rattle.laws.specs.Laws.Pick.{pick-ind}
 use Rattle.laws.specs.Lists.{onAt, without}
 use Rattle.records.specs.Slots.{only, each}
@@ -111,11 +110,6 @@ module _ {A : Type 0} where
   all-own [] = nothing
   all-own (a ∷ l) = both (here refl) (all-mono (λ b i. there i) (all-own l))
 
-  -- an element that P holds of, and some other thing that holds of each
-  pub some-all : {P Q : A → Type 0} {l : List A} → All Q l → Some P l → Some (λ a. P a × Q a) l
-  some-all (both q h) (here p) = here (p, q)
-  some-all (both q h) (there s) = there (some-all h s)
-
   -- what stands at a place is an element
   pub at-in : (i : ℕ) (x : A) (l : List A) → getElem? l i ≡ some x → In x l
   at-in i x [] e = not-none e
@@ -142,9 +136,3 @@ module _ {A B : Type 0} where
 -- the elements that a test holds of are elements that it holds of
 pub only-in : {A : Type 0} (p : A → Bool) (l : List A) → All (λ a. In a l × (p a ≡ true)) (only p l)
 only-in p l = all-and (all-only p (all-own l)) (only-test p l)
-
--- an element that a test holds of is among those
-pub in-only : {A : Type 0} (p : A → Bool) {x : A} {l : List A} → In x l → p x ≡ true → In x (only p l)
-unfolding only pick
-in-only p (here {a} e) q = let r : p a ≡ true = rw e q in rw r (here e)
-in-only p {x} (there {a} {l} i) q = let rest = in-only p i q in pick-ind (In x) (p a) _ _ (λ _. there rest) (λ _. rest)

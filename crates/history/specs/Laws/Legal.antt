@@ -19,7 +19,7 @@ use Rattle.records.specs.Entry.{Request, Entry, isKnown}
 use Rattle.rules.specs.Node.{Node, Event, emptyNode}
 use Rattle.rules.specs.Outcome.{quiet}
 use Rattle.rules.specs.Ageing.{aged, ageing}
-use Rattle.rules.specs.Step.{after, step, run, history}
+use Rattle.rules.specs.Step.{afterAgeing, step, run, history}
 use Rattle.history.specs.Lists.{one, howMany, Apart}
 use Rattle.history.specs.Laws.Count.{howMany-le, howMany-none, howMany-any, onFaces, onFaces-one}
 use Rattle.history.specs.Key.{Key, keyOf, keyAt, isEnd, counted, ended, openIn, openNow, stands, isOf, like}
@@ -113,7 +113,7 @@ module _ (q : Key → Bool) (o : OfOne q) where
   -- every step takes turns
   pub step-legal : (faces least : ℕ) (e : Event) (n : Node) → Shaped faces n
       → Legal q (stands q (n .pending)) (step faces least e n .happenings) (stands q (step faces least e n .node .pending))
-  unfolding quiet after
+  unfolding quiet afterAgeing
   step-legal faces least e n s =
       let t = e .time in
       by-rule faces least e n

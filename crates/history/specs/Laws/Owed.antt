@@ -28,7 +28,7 @@ use Rattle.rules.specs.Interest.{Arrival, sendsOn, renews, forwards, opensEntry
 use Rattle.rules.specs.Nack.{peersOf, nackOf, endsByNack}
 use Rattle.rules.specs.Command.{closeStep}
 use Rattle.rules.specs.Data.{isSelfMet, fateOf, dataEnds, satisfies}
-use Rattle.rules.specs.Step.{after, step}
+use Rattle.rules.specs.Step.{afterAgeing, step}
 use Rattle.history.specs.Lists.{All, nothing, both, there, In}
 use Rattle.history.specs.Laws.Every.{all-mono, all-only, all-any, all-map, all-in, at-in, only-in, some-right, some-mono, some-each, in-map}
 use Rattle.history.specs.Laws.Copies.{Copied, copies-copied}
@@ -128,13 +128,13 @@ none-owed e n o ss h = all-mono (λ s no k. absurd (no k)) h
 module _ (faces : ℕ) (e : Event) (n : Node) where
   -- what the event comes to, its expiries first
   abbrev whole : Outcome → Outcome
-  whole o = after (ageing (e .time) n) o
+  whole o = afterAgeing (ageing (e .time) n) o
 
   -- a Data that came, which matches: its copies are owed
   satisfies-owed : (f : ℕ) (l : List ℕ) → e .what ≡ packet f l → (q : HoldsData l)
       → All (Owed e n (whole (satisfies (e .time) (aged (e .time) n) f (brought q) (q .bytes))))
       (satisfies (e .time) (aged (e .time) n) f (brought q) (q .bytes) .sends)
-  unfolding satisfies after
+  unfolding satisfies afterAgeing
   satisfies-owed f l came q = all-mono (λ s c _. inr (ends s c)) (copies-copied m f bytes es)
     where
       m : Node
@@ -171,7 +171,7 @@ module _ (faces : ℕ) (e : Event) (n : Node) where
       → lookup (e .time) (asked q .name) (asked q .canBePrefix) (asked q .mustBeFresh)
       (aged (e .time) n .store) ≡ some h
       → All (Owed e n (whole (served (aged (e .time) n) (arrival f q) h))) (served (aged (e .time) n) (arrival f q) h .sends)
-  unfolding served after aged
+  unfolding served afterAgeing aged
   served-owed f l came q h found =
       let hit = lookup-takes (e .time) (asked q .name) (asked q .canBePrefix) (asked q .mustBeFresh)
       (n .store) h found in
@@ -210,7 +210,7 @@ module _ (faces : ℕ) (e : Event) (n : Node) where
 module _ (faces least : ℕ) (e : Event) (n : Node) where
   -- whatever an event comes to
   by-case : (o : Outcome) → Becomes faces least e n o → All (Owed e n o) (o .sends)
-  unfolding quiet after
+  unfolding quiet afterAgeing
   by-case o (ignored a d) = nothing
   by-case o (taken p t f k) = past-owed faces e n (e .what) p refl k
 

@@ -29,7 +29,7 @@ use Rattle.rules.specs.Data.{satisfies}
 use Rattle.rules.specs.Nack.{settled, endsByNack}
 use Rattle.rules.specs.Command.{closeStep}
 use Rattle.records.specs.Closing.{withoutFace}
-use Rattle.rules.specs.Step.{after, step, run}
+use Rattle.rules.specs.Step.{afterAgeing, step, run}
 use Rattle.history.specs.Laws.Every.{not-none, all-mono, all-only, all-map, all-snoc, all-onAt, all-without, all-in, some-left, some-right, some-mono}
 use Rattle.history.specs.Lists.{All, nothing, both, Some, here as first, there as later, In}
 use Rattle.history.specs.Laws.Known.{entry-in, withRequest, sentOn}
@@ -158,7 +158,7 @@ module _ (faces now : ℕ) (n : Node) (k : AllNarrow n) where
 module _ (faces least : ℕ) where
   -- whatever an event of bytes comes to
   by-case : (e : Event) (n : Node) (o : Outcome) → OfBytes (e .what) → Becomes faces least e n o → AllNarrow n → AllNarrow (o .node)
-  unfolding quiet after
+  unfolding quiet afterAgeing
   by-case e n o b (ignored a d) k = k
   by-case e n o b (taken p t f x) k = past-narrow faces (e .time) (aged (e .time) n) (aged-narrow (e .time) n k) (e .what) p b x
 

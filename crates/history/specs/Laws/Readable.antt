@@ -24,7 +24,7 @@ use Rattle.rules.specs.Interest.{sendsOn, renews, forwards, opensEntry, asksAga
 use Rattle.rules.specs.Data.{storedAs, satisfies}
 use Rattle.rules.specs.Nack.{peersOf, nackOf, settled, endsByNack}
 use Rattle.rules.specs.Command.{closeStep}
-use Rattle.rules.specs.Step.{after, step, run}
+use Rattle.rules.specs.Step.{afterAgeing, step, run}
 use Rattle.history.specs.Lists.{All, nothing, both, Some, here, In}
 use Rattle.history.specs.Laws.Every.{all-mono, all-map, all-in, all-and, all-snoc, all-only, all-without, at-in, some-left, some-right}
 use Rattle.history.specs.Laws.Holding.{held-slot}
@@ -147,7 +147,7 @@ readable e n o s m w = go (s .kind) refl m
 module _ (faces least : ℕ) where
   -- whatever an event comes to
   by-case : (e : Event) (n : Node) (o : Outcome) → Becomes faces least e n o → Shaped faces n → All (λ x. Made e n x (x .kind)) (o .sends)
-  unfolding quiet after
+  unfolding quiet afterAgeing
   by-case e n o (ignored a d) s = nothing
   by-case e n o (taken p t f k) s = past-made e n faces (aged-shaped faces (e .time) n s) (e .what) p refl k
 
@@ -212,7 +212,7 @@ module _ (faces least : ℕ) where
   brought-case : (past : List Event) (e : Event) (n : Node) (o : Outcome) → Becomes faces least e n o
       → All (λ d. Some (BroughtBy d) past) (n .store)
       → All (λ d. Some (BroughtBy d) (past ++ (e ∷ []))) (o .node .store)
-  unfolding quiet after aged
+  unfolding quiet afterAgeing aged
   brought-case past e n o (ignored a d) k = same-brought past e n k
   brought-case past e n o (taken p t f b) k = past-brought past e (aged (e .time) n) k faces (e .what) p refl b
 

@@ -26,7 +26,7 @@ use Rattle.rules.specs.Data.{isSelfMet, copyOn, copies, satisfies}
 use Rattle.records.specs.Entry.{classOn}
 use Rattle.rules.specs.Nack.{peersOf, nackOf, endsByNack}
 use Rattle.rules.specs.Command.{closeStep}
-use Rattle.rules.specs.Step.{badFace, after, step}
+use Rattle.rules.specs.Step.{badFace, afterAgeing, step}
 use Rattle.history.specs.Laws.Hops.{cheapest-may, resends-may}
 use Rattle.history.specs.Laws.Known.{withRequest, onward}
 use Rattle.history.specs.Laws.Becomes.{arrival, good-face, Past, Becomes, ignored, taken, becomes, asked}
@@ -125,7 +125,7 @@ module _ (faces now : ℕ) (n m : Node) where
 module _ (faces least : ℕ) (e : Event) (n : Node) where
   -- whatever an event comes to
   by-case : (o : Outcome) → Becomes faces least e n o → Rising 1 (o .sends)
-  unfolding quiet after
+  unfolding quiet afterAgeing
   by-case o (ignored a d) = done
   by-case o (taken p t f k) = past-rises faces (e .time) n (aged (e .time) n) (e .what) p f k
 

@@ -31,7 +31,7 @@ use Rattle.rules.specs.Interest.{Arrival, eligible, newEntry, noRoom, entryOf, 
 use Rattle.rules.specs.Data.{storedAs, satisfies}
 use Rattle.rules.specs.Nack.{settled, endsByNack}
 use Rattle.rules.specs.Command.{faceOf, closeStep}
-use Rattle.rules.specs.Step.{badFace, after, step, run}
+use Rattle.rules.specs.Step.{badFace, afterAgeing, step, run}
 use Rattle.history.specs.Lists.{nothing, alone}
 use Rattle.history.specs.Laws.Every.{all-onAt, all-in}
 use Rattle.history.specs.Laws.Holding.{length-noSlots}
@@ -225,7 +225,7 @@ module _ (faces now : ℕ) (n : Node) (s : Shaped faces n) where
 module _ (faces least : ℕ) where
   -- whatever an event comes to
   by-case : (e : Event) (n : Node) (o : Outcome) → Becomes faces least e n o → Shaped faces n → Shaped faces (o .node)
-  unfolding quiet after
+  unfolding quiet afterAgeing
   by-case e n o (ignored a d) s = s
   by-case e n o (taken p t f k) s =
       past-shaped faces (e .time) (aged (e .time) n) (aged-shaped faces (e .time) n s) (e .what) p

@@ -1,14 +1,14 @@
 -- Sets of small numbers as the binary digits of a number: membership, a member more or less, the size, the lowest member.
 -- Assumes nothing.
-use Prim.Native.Nat.{ℕ, zero, suc, _+_, _-_, _*_, _/_, _%_, _^_, _≤_, _<_, min, max}
+use Prim.Native.Nat.{ℕ, zero, suc, _+_, _-_, _*_, _/_, _%_, _^_, _≤_, _<_, min}
 use mathlib.Core.Path.{_≡_, refl, sym, _∙_, ap}
-use mathlib.Core.Bool.{Bool, true, false, _&&_, _||_, not}
+use mathlib.Core.Bool.{Bool, true, false, _&&_, not}
 use mathlib.Core.List.{List, [], _∷_}
 use mathlib.Core.Logic.{_≢_, _↔_}
 use lib.Dec.{eqb}
 use lib.Count.{onesIn, ones, trailingZeros, under, ones-step}
 use lib.Pow.{pow-pos, pow-lt, pow-add, shr-shr}
-use lib.Bits.{bitAnd, bitOr, bitXor, differ, and-step, or-step, xor-step, and-high, or-disjoint, or-add-and, or-lt}
+use lib.Bits.{bitAnd, bitOr, bitXor, differ, and-step, xor-step, and-high, or-disjoint, or-add-and, or-lt}
 use borrow.Author.Tests.{eqb-true, eqb-false, eq-eqb, ne-eqb}
 use native.Mathlib.Numerals.{one-add}
 use native.Mathlib.Nat.{mod-lt, mod-eq-of-lt, one-mul, add-zero, add-mul-mod-self-right, div-add-mod'}
@@ -167,14 +167,6 @@ none-set : (f s : ℕ) → ones s ≡ 0 → digit f s ≡ 0
 unfolding digit
 none-set zero s e = omega (arith, ones-step s)
 none-set (suc f) s e = none-set f (s / 2) (omega (arith, ones-step s))
-
--- the count of ones is 0 exactly where no digit is set
-pub ones-zero : (d s : ℕ) → s < 2 ^ d → (ones s ≡ 0) ↔ ((f : ℕ) → f < d → digit f s ≡ 0)
-unfolding ones
-ones-zero d s h = (
-  (λ e f l. none-set f s e),
-  (λ n. ap ones (digits-ext d s 0 h (pow-pos d) (λ f l. n f l ∙ sym (digit-zero f)))),
-)
 
 -- t is the lowest member of s below n, or n where there is none
 pub record Lowest (n s t : ℕ) : Type 0 where
@@ -341,13 +333,6 @@ module _ (f a b : ℕ) where
   member-and =
       member-made bitAnd min (λ x y. x && y) and-step
       (two-digits (λ x y. min x y ≡ pick (eqb x 1 && eqb y 1) 1 0) refl refl refl refl) f a b
-
-  -- the members of the machine's `or` are those of either
-  pub member-or : member f (bitOr a b) ≡ (member f a || member f b)
-  unfolding pick
-  member-or =
-      member-made bitOr max (λ x y. x || y) or-step
-      (two-digits (λ x y. max x y ≡ pick (eqb x 1 || eqb y 1) 1 0) refl refl refl refl) f a b
 
   -- the members of the machine's `xor` with what is in both are those of the first that the second has not
   pub member-less : member f (bitXor a (bitAnd a b)) ≡ (member f a && not (member f b))

@@ -2,29 +2,15 @@
 -- Assumes nothing.
 use Prim.Native.Nat.{ℕ, suc, zero, _+_, _-_, _≤_, _<_}
 use mathlib.Core.Path.{_≡_, refl, sym, ap, _∙_}
-use mathlib.Core.List.{List, [], _∷_}
+use mathlib.Core.List.{List}
 use mathlib.Core.Logic.{⊎-elim, _≢_}
 use native.Mathlib.Omega.{arith}
 use native.Mathlib.Nat.{eq-or-lt-of-le}
-use lib.ListN.{length, getD, set, replicate, length-set, List·getD-map}
+use lib.ListN.{length, getD, set, length-set, List·getD-map}
 use lib.Seq.{getD-set-same, getD-set-other, map-set-same}
 use Rattle.laws.specs.Places.Loop.{turns}
 use Rattle.laws.specs.Laws.Loop.{turns-keeps}
 use Rattle.laws.specs.Places.Rows.{at, down}
-
--- what holds of the element stored, and of the element at j, holds of the element at j after the store
-pub set-keeps : {A : Type 0} (P : A → Type 0) (l : List A) (i j : ℕ) (v d : A) → P v → P (getD l j d) → P (getD (set l i v) j d)
-set-keeps P [] i j v d a b = b
-set-keeps P (x ∷ l) zero zero v d a b = a
-set-keeps P (x ∷ l) zero (suc j) v d a b = b
-set-keeps P (x ∷ l) (suc i) zero v d a b = b
-set-keeps P (x ∷ l) (suc i) (suc j) v d a b = set-keeps P l i j v d a b
-
--- what holds of the element repeated, and of the default, holds of the element at any place
-pub replicate-keeps : {A : Type 0} (P : A → Type 0) (n j : ℕ) (v d : A) → P v → P d → P (getD (replicate n v) j d)
-replicate-keeps P zero j v d a b = b
-replicate-keeps P (suc n) zero v d a b = a
-replicate-keeps P (suc n) (suc j) v d a b = replicate-keeps P n j v d a b
 
 module _ {A : Type 0} (d : A) where
   -- row i after its change
@@ -45,11 +31,6 @@ module _ {A : Type 0} (d : A) where
       sym (List·getD-map m (set t i (g (getD t i d))) k d)
       ∙ ap (λ (l : List B). getD l k (m d)) (map-set-same m t i (g (getD t i d)) d e)
       ∙ List·getD-map m t k d
-
-  -- a change of a row keeps the number of rows
-  pub length-at : (i : ℕ) (g : A → A) (t : List A) → length (at d i g t) ≡ length t
-  unfolding at
-  length-at i g t = length-set t i _
 
 module _ {A : Type 0} (d : A) where
   -- one row moved down: the number of rows is as it was

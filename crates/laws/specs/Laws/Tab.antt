@@ -1,6 +1,6 @@
 -- Lists made from places, which is what a view of a table is: an element changed, taken out, put at the end or looked for.
 -- Assumes nothing.
-use Prim.Native.Nat.{ℕ, suc, zero, _+_, _-_, _≤_, _<_, min}
+use Prim.Native.Nat.{ℕ, suc, zero, _+_, _-_, _≤_, _<_}
 use mathlib.Core.Path.{_≡_, refl, sym, ap, _∙_}
 use mathlib.Core.Bool.{Bool, true, false}
 use mathlib.Core.List.{List, [], _∷_, _++_, map}
@@ -8,7 +8,7 @@ use mathlib.Core.Logic.{_≢_}
 use native.Mathlib.Omega.{arith}
 use native.Mathlib.Nat.{add-zero, zero-add}
 use native.Mathlib.Numerals.{add-one}
-use lib.ListN.{length, getD, take, drop, set, replicate}
+use lib.ListN.{length, getD, drop, set, replicate}
 use lib.Seq.{ext-getD}
 use Rattle.laws.specs.Laws.Pick.{pick-ind, pick-ap, pick-eq}
 use Rattle.laws.specs.Places.Loop.{first, turns}
@@ -120,13 +120,6 @@ module _ {A : Type 0} where
   unfolding at
   tab-set g h x i m j e o = tab-at g h (λ _. x) i m j e o ∙ sym (at-onAt x j (λ _. x) (tab g i m))
 
-  -- a change to what is given is a store
-  pub onAt-set : (i : ℕ) (a : A) (l : List A) → onAt i (λ _. a) l ≡ set l i a
-  unfolding onAt
-  onAt-set i a [] = refl
-  onAt-set zero a (b ∷ l) = refl
-  onAt-set (suc i) a (b ∷ l) = rw (onAt-set i a l)
-
   -- what is x at each place makes a list of x
   pub tab-replicate : (g : ℕ → A) (x : A) (i m : ℕ) → ((k : ℕ) → i ≤ k → k < i + m → g k ≡ x) → tab g i m ≡ replicate m x
   unfolding tab
@@ -198,13 +191,6 @@ module _ {A : Type 0} (p : A → Bool) where
       (λ _ h. indexOf-before l k d (omega arith))
 
 module _ {A : Type 0} (g : ℕ → A) where
-  -- the first k elements are what g gives at the first k places
-  pub take-tab : (i m k : ℕ) → take k (tab g i m) ≡ tab g i (min k m)
-  unfolding tab
-  take-tab i m zero = let z : min 0 m ≡ 0 = omega arith in rw z
-  take-tab i zero (suc k) = let z : min (suc k) 0 ≡ 0 = omega arith in rw z
-  take-tab i (suc m) (suc k) = let z : min (suc k) (suc m) ≡ suc (min k m) = omega arith in rw (z, take-tab (suc i) m k)
-
   -- without the first k elements there is what g gives from k places on
   pub drop-tab : (i m k : ℕ) → drop k (tab g i m) ≡ tab g (i + k) (m - k)
   unfolding tab
@@ -234,16 +220,3 @@ module _ {A : Type 0} (g : A → A) where
   unfolding turns onAt
   turns-map [] = refl
   turns-map (a ∷ l) = turns-behind 0 (length l) (g a) l ∙ rw (turns-map l)
-
--- to drop more elements than there are is to drop all
-pub drop-most : {A : Type 0} (i : ℕ) (l : List A) → drop (min i (length l)) l ≡ drop i l
-drop-most zero l = let z : min 0 (length l) ≡ 0 = omega arith in rw z
-drop-most (suc i) [] = let z : min (suc i) 0 ≡ 0 = omega arith in rw z
-drop-most (suc i) (a ∷ l) = let z : min (suc i) (suc (length l)) ≡ suc (min i (length l)) = omega arith in rw z (drop-most i l)
-
--- a change that changes nothing
-pub onAt-same : {A : Type 0} (i : ℕ) (l : List A) → onAt i (λ a. a) l ≡ l
-unfolding onAt
-onAt-same i [] = refl
-onAt-same zero (a ∷ l) = refl
-onAt-same (suc i) (a ∷ l) = rw (onAt-same i l)

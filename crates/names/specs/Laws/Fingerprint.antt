@@ -56,11 +56,6 @@ pub stepped-xor : (h b : ℕ) → b < 256 → (bitXor h b * 1099511628211) % 2 ^
 unfolding stepped
 stepped-xor h b l = rw (xor-low h b l)
 
--- a step's result has 64 bits
-pub stepped-below : (h b : ℕ) → stepped h b < 2 ^ 64
-unfolding stepped
-stepped-below h b = omega arith
-
 -- the byte at a place, then those behind it
 pub fnv-more : (s : List ℕ) (i h r : ℕ) → i < length s → r ≡ stepped h (getD s i 0) → fnv r (drop (i + 1) s) ≡ fnv h (drop i s)
 unfolding fnv

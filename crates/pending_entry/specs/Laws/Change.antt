@@ -29,7 +29,7 @@ use Rattle.records.specs.Slots.{slot, setSlot, emptied, emptiedFrom}
 use Rattle.records.specs.Entry.{Request, Sent, Entry, withRequests, withSent, asking, ending, sending, notSent, markNacked, withNack, reasonOf, isIdle, ownNonce, sentNonce}
 use Rattle.pending_entry.specs.declared.Asked.{Asked}
 use Rattle.pending_entry.specs.Places.View.{requestAt, sentAt, nackWord, viewFor, view-name, view-prefix, view-fresh, view-class, view-requests, view-sent}
-use Rattle.pending_entry.specs.Places.Row.{requestOf, sentOf, askedRow, sentRow, nackedRow, withSets}
+use Rattle.pending_entry.specs.Places.Row.{requestWords, sentWords, askedRow, sentRow, nackedRow, withSets}
 use Rattle.pending_entry.specs.Operations.{bareEntry, requestIn, askingFaces, sentFaces, unsentOf}
 
 -- an entry is what its head and its records say of each part
@@ -162,8 +162,8 @@ module _ (n : ℕ) (nm head : List ℕ) (recs : List (List ℕ)) where
     view-asking nonce expiry =
         let row = askedRow nonce expiry in
         view-with _ _ _ _ refl refl refl refl
-        (slots-at n requestOf row _ recs f q l ∙ ap (setSlot f _) (sym (view-requests n nm head recs)))
-        (slots-leave n sentOf row _ recs (f - 1) refl ∙ sym (view-sent n nm head recs))
+        (slots-at n requestWords row _ recs f q l ∙ ap (setSlot f _) (sym (view-requests n nm head recs)))
+        (slots-leave n sentWords row _ recs (f - 1) refl ∙ sym (view-sent n nm head recs))
 
     -- a face put among those with an out-record, and its out-record set
     pub view-sending : (nonce time : ℕ)
@@ -173,8 +173,8 @@ module _ (n : ℕ) (nm head : List ℕ) (recs : List (List ℕ)) where
     view-sending nonce time =
         let row = sentRow nonce time 0 in
         view-with _ _ _ _ refl refl refl refl
-        (slots-leave n requestOf row _ recs (f - 1) refl ∙ sym (view-requests n nm head recs))
-        (slots-at n sentOf row _ recs f q l ∙ ap (setSlot f _) (sym (view-sent n nm head recs)))
+        (slots-leave n requestWords row _ recs (f - 1) refl ∙ sym (view-requests n nm head recs))
+        (slots-at n sentWords row _ recs f q l ∙ ap (setSlot f _) (sym (view-sent n nm head recs)))
 
   module _ (f : ℕ) where
     -- a number that is no face opens no request
@@ -212,8 +212,8 @@ module _ (n : ℕ) (nm head : List ℕ) (recs : List (List ℕ)) where
         let q = face-yes n f .1 (has-face n t f e) in
         let there : slot f (slotsOf n t (sentAt recs)) ≡ some (sentAt recs (f - 1)) = slots-slot n t (sentAt recs) f ∙ pick-yes _ _ _ e in
         view-with _ _ _ _ refl refl refl refl
-        (slots-leave n requestOf row _ recs (f - 1) refl ∙ sym (view-requests n nm head recs))
-        (rw (with-present n t f e) at (slots-at n sentOf row t recs f q l))
+        (slots-leave n requestWords row _ recs (f - 1) refl ∙ sym (view-requests n nm head recs))
+        (rw (with-present n t f e) at (slots-at n sentWords row t recs f q l))
         ∙ rw (view-sent n nm head recs, there, nack-said reason)
 
     -- without an out-record there is nothing to mark

@@ -7,12 +7,12 @@ use Rattle.records.specs.Entry.{Request, Sent}
 use Rattle.pending_entry.specs.Places.View.{nackWord}
 
 -- the in-record that a row means
-abbrev pub requestOf : List ℕ → Request
-requestOf r = record { nonce = getD r 0 0; expiry = getD r 1 0 }
+abbrev pub requestWords : List ℕ → Request
+requestWords r = record { nonce = getD r 0 0; expiry = getD r 1 0 }
 
 -- the out-record that a row means
-abbrev pub sentOf : List ℕ → Sent
-sentOf r = record { nonce = getD r 2 0; time = getD r 3 0; nacked = nackWord (getD r 4 0) }
+abbrev pub sentWords : List ℕ → Sent
+sentWords r = record { nonce = getD r 2 0; time = getD r 3 0; nacked = nackWord (getD r 4 0) }
 
 -- the row of a face with another in-record
 abbrev pub askedRow : ℕ → ℕ → List ℕ → List ℕ

@@ -5,13 +5,13 @@ use Prim.Native.Nat.{ℕ, zero, suc, _<_}
 use mathlib.Core.Path.{_≡_, refl, sym, ap, subst, _∙_}
 use mathlib.Core.Bool.{Bool, true, false, not}
 use mathlib.Core.List.{List, [], _∷_, map}
-use mathlib.Core.Logic.{_≢_, _⊎_, inl, inr, ⊎-elim}
+use mathlib.Core.Logic.{_≢_, inl, inr, ⊎-elim}
 use lib.Dec.{eqb}
 use lib.ListN.{length, getD}
 use borrow.Author.Tests.{eqb-true, eqb-false, eq-eqb, ne-eqb}
 use native.Mathlib.Nat.{eq-or-lt-of-le}
 use native.Mathlib.Omega.{arith}
-use Rattle.laws.specs.Laws.Pick.{pick-ap, pick-yes, pick-no}
+use Rattle.laws.specs.Laws.Pick.{pick-yes, pick-no}
 use Rattle.laws.specs.Laws.Tab.{indexOf-le}
 use Rattle.laws.specs.Lists.{onAt, without, indexOf}
 use Rattle.records.specs.Slots.{only}
@@ -103,12 +103,6 @@ unfolding without
 map-without g i [] = refl
 map-without g zero (a ∷ l) = refl
 map-without g (suc i) (a ∷ l) = rw (map-without g i l)
-
--- what is kept of what is made of a list
-pub keep-map : {A B : Type 0} (g : A → B) (q : B → Bool) (l : List A) → map g (only (λ a. q (g a)) l) ≡ only q (map g l)
-unfolding only
-keep-map g q [] = refl
-keep-map g q (a ∷ l) = pick-ap (map g) (q (g a)) (a ∷ only (λ a. q (g a)) l) (only (λ a. q (g a)) l) ∙ rw (keep-map g q l)
 
 -- a search in what is made of a list
 pub indexOf-map : {A B : Type 0} (g : A → B) (q : B → Bool) (l : List A) → indexOf q (map g l) ≡ indexOf (λ a. q (g a)) l

@@ -1,10 +1,10 @@
 -- What the rows of a table are when one is opened, removed or changed, when some are picked out, and when their numbers are made anew.
 -- Assumes nothing.
-use Prim.Native.Nat.{ℕ, zero, suc, _+_, _-_, _%_, _^_, _≤_, _<_}
+use Prim.Native.Nat.{ℕ, zero, suc, _+_, _%_, _^_, _≤_, _<_}
 use mathlib.Core.Path.{_≡_, refl, sym, ap, subst, _∙_}
 use mathlib.Core.Bool.{Bool, true, false, _&&_, not, and-true, and-false, true≢false}
 use mathlib.Core.List.{List, [], _∷_, _++_, map}
-use mathlib.Core.Logic.{_≢_, _↔_, _⊎_, inl, inr, ⊎-elim}
+use mathlib.Core.Logic.{_≢_, _↔_, inl, inr, ⊎-elim}
 use lib.Dec.{eqb}
 use lib.ListN.{length, getD, set, length-set, length-map}
 use lib.Seq.{getD-set-same, getD-set-other}
@@ -12,17 +12,14 @@ use lib.Count.{ones}
 use borrow.Author.Tests.{eq-eqb, ne-eqb}
 use native.Mathlib.Omega.{arith}
 use Rattle.laws.specs.Digits.{member, added, removed}
-use Rattle.laws.specs.Laws.Digits.{member-add-same, member-add-other, member-remove-same, member-remove-other}
-use Rattle.laws.specs.Laws.Digits.{digit-member, size-below, tally-ext}
+use Rattle.laws.specs.Laws.Digits.{member-add-same, member-add-other, member-remove-same, member-remove-other, digit-member, size-below, tally-ext}
 use Rattle.laws.specs.Lists.{onAt, without, indexOf}
 use Rattle.laws.specs.Pick.{pick}
 use Rattle.records.specs.Slots.{only}
 use Rattle.pending_order.specs.Laws.Number.{ordered-renumbered, above-at, above-le}
 use Rattle.pending_order.specs.Laws.Order.{before-of, before-self, In, Rising, ordered-sorts}
-use Rattle.pending_order.specs.Laws.Place.{same-or, place-here, place-later, place-in, place-out, place-found, keep-place}
-use Rattle.pending_order.specs.Laws.Place.{map-place, map-without, indexOf-map}
-use Rattle.pending_order.specs.Laws.Rows.{least-found, ordered-in, ordered-same, ordered-keep, ordered-open, ordered-next}
-use Rattle.pending_order.specs.Laws.Rows.{ordered-end, ordered-length, least-in, keep-first}
+use Rattle.pending_order.specs.Laws.Place.{same-or, place-here, place-later, place-in, place-out, place-found, keep-place, map-place, map-without, indexOf-map}
+use Rattle.pending_order.specs.Laws.Rows.{least-found, ordered-in, ordered-same, ordered-keep, ordered-open, ordered-next, ordered-end, ordered-length, least-in, keep-first}
 use Rattle.pending_order.specs.Order.{before, placeIn, rowsOf, viewOf}
 use Rattle.pending_order.specs.Places.Rows.{least, leastOf, firstOf, aboveOf, numbered}
 

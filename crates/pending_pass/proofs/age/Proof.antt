@@ -7,7 +7,7 @@ use Rattle.names.specs.Fingerprint.{fingerprint}
 use Rattle.dead.specs.Places.View as dead
 use Rattle.pending_table.specs.Places.View.{view, place, marks, view-most, view-wide, marks-length}
 use Rattle.pending_pass.specs.Places.Pass.{Passing}
-use Rattle.pending_pass.specs.Places.Works.{ageing}
+use Rattle.pending_pass.specs.Places.Works.{ageingWork}
 use Rattle.pending_pass.specs.Laws.Pass.{firstMark, markCount, pass-start, pass-turn, pass-less, pass-end}
 use Rattle.pending_pass.specs.Laws.Works.{pass-ages}
 use Rattle.pending_pass.specs.Laws.Asked.{rows-few}
@@ -17,7 +17,7 @@ use Rattle.pending_pass.proofs.age.Tie as tie
 abbrev Inv-loop : tie.InvT-loop
 Inv-loop names heads₀ recs numbers lines₀ rows₀ start time left₀ pending₀ buried₀ made₀ h₀ heads lines rows left pending buried made h =
     (place numbers pending h ≡ firstMark (marks numbers pending left))
-    × Passing (ageing (fingerprint start) time)
+    × Passing (ageingWork (fingerprint start) time)
     (marks numbers pending₀ left₀) (view names heads₀ recs numbers pending₀) (dead.view lines₀ buried₀) rows₀ made₀
     (marks numbers pending left) (view names heads recs numbers pending) (dead.view lines buried) rows made
 

@@ -7,7 +7,7 @@ use Rattle.names.specs.Fingerprint.{fingerprint}
 use Rattle.dead.specs.Places.View as dead
 use Rattle.pending_table.specs.Places.View.{view, place, marks, marks-length}
 use Rattle.pending_pass.specs.Places.Pass.{Passing}
-use Rattle.pending_pass.specs.Places.Works.{closing}
+use Rattle.pending_pass.specs.Places.Works.{closingWork}
 use Rattle.pending_pass.specs.Laws.Pass.{firstMark, markCount, pass-start, pass-turn, pass-less, pass-end}
 use Rattle.pending_pass.specs.Laws.Works.{pass-closes}
 use Rattle.pending_pass.proofs.close_face.Statement.{statement}
@@ -16,7 +16,7 @@ use Rattle.pending_pass.proofs.close_face.Tie as tie
 abbrev Inv-loop : tie.InvT-loop
 Inv-loop names heads₀ recs numbers lines₀ rows₀ made start time face left₀ s₀ buried₀ noted₀ h₀ heads lines rows left s buried noted h =
     (place numbers s h ≡ firstMark (marks numbers s left))
-    × Passing (closing (fingerprint start) time face)
+    × Passing (closingWork (fingerprint start) time face)
     (marks numbers s₀ left₀) (view names heads₀ recs numbers s₀) (dead.view lines₀ buried₀) rows₀ noted₀
     (marks numbers s left) (view names heads recs numbers s) (dead.view lines buried) rows noted
 

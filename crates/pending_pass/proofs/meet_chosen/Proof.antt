@@ -8,7 +8,7 @@ use Rattle.dead.specs.Places.View as dead
 use Rattle.pending_table.specs.Places.View.{view, place, marks, marks-length}
 use Rattle.pending_pass.specs.Satisfies.{dataFate}
 use Rattle.pending_pass.specs.Places.Pass.{Passing}
-use Rattle.pending_pass.specs.Places.Works.{satisfying}
+use Rattle.pending_pass.specs.Places.Works.{satisfyingWork}
 use Rattle.pending_pass.specs.Laws.Pass.{firstMark, markCount, pass-start, pass-turn, pass-less, pass-end}
 use Rattle.pending_pass.proofs.meet_chosen.Statement.{statement}
 use Rattle.pending_pass.proofs.meet_chosen.Tie as tie
@@ -16,7 +16,7 @@ use Rattle.pending_pass.proofs.meet_chosen.Tie as tie
 abbrev Inv-loop : tie.InvT-loop
 Inv-loop names heads recs numbers lines₀ rows₀ made start time face adhoc left₀ s₀ buried₀ noted₀ h₀ lines rows left s buried noted h =
     (place numbers s h ≡ firstMark (marks numbers s left))
-    × Passing (satisfying (fingerprint start) time (dataFate face adhoc))
+    × Passing (satisfyingWork (fingerprint start) time (dataFate face adhoc))
     (marks numbers s₀ left₀) (view names heads recs numbers s₀) (dead.view lines₀ buried₀) rows₀ noted₀
     (marks numbers s left) (view names heads recs numbers s) (dead.view lines buried) rows noted
 

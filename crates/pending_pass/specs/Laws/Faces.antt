@@ -22,7 +22,7 @@ use Rattle.records.specs.Slots.{setSlot, isSome, holds, Held, heldFrom, only, e
 use Rattle.records.specs.Laws.Slot.{set-slot-none}
 use Rattle.records.specs.Entry.{Request, Entry, withRequests, ending, notAsking}
 use Rattle.pending_order.specs.Laws.Place.{same-or}
-use Rattle.pending_pass.specs.Lowest.{isSelfMet}
+use Rattle.pending_pass.specs.Lowest.{meetsOwn}
 
 -- all of a list
 pub only-all : {A : Type 0} (l : List A) → only (λ _. true) l ≡ l
@@ -120,16 +120,16 @@ ending-one n f e w = ap (λ (x : List (Option Request)). withRequests x e) (go (
         no g = same-or g f (λ q. rw q (has-added-same n 0 f ∙ y)) (λ d. one-other n f g d)
 
 -- the faces where a request is self-met by Data from f: f alone, or none where it is ad hoc
-pub met-one : (n f g : ℕ) → isFace n g ≡ true → hasFace n (withFace n 0 f) g ≡ isSelfMet f false g
-unfolding isSelfMet
+pub met-one : (n f g : ℕ) → isFace n g ≡ true → hasFace n (withFace n 0 f) g ≡ meetsOwn f false g
+unfolding meetsOwn
 met-one n f g y = one-has n f g y ∙ go (eqb g f)
   where
     go : (b : Bool) → b ≡ (b && true)
     go true = refl
     go false = refl
 
-pub met-none : (n f g : ℕ) → hasFace n 0 g ≡ isSelfMet f true g
-unfolding isSelfMet
+pub met-none : (n f g : ℕ) → hasFace n 0 g ≡ meetsOwn f true g
+unfolding meetsOwn
 met-none n f g = has-none n g ∙ go (eqb g f)
   where
     go : (b : Bool) → false ≡ (b && false)

@@ -30,7 +30,7 @@ use Rattle.pending_order.specs.Laws.Place.{same-or}
 use Rattle.pending_entry.specs.Operations.{askingFaces}
 use Rattle.pending_table.specs.declared.Facts.{Facts}
 use Rattle.pending_table.specs.Operations.{nothing, factsOf}
-use Rattle.pending_pass.specs.Lowest.{classWord, classWords, isAsked, isSelfMet, isOwed}
+use Rattle.pending_pass.specs.Lowest.{classWord, classWords, isAsked, meetsOwn, isOwed}
 use Rattle.records.specs.Entry.{classOn}
 use Rattle.pending_pass.specs.Places.Pass.{marked}
 use Rattle.pending_pass.specs.Places.Lowering.{lowerWord, Lowers, LowersTo, Lowest, LowestTo}
@@ -244,7 +244,7 @@ lowest-words n es had ws h =
 
 -- the faces that a copy goes to: those that are asked, without those that are self-met
 pub lowest-owed : (n f : ℕ) (adHoc : Bool) (es : List Entry) (had met copies : ℕ) (ws : List ℕ) → Lowest n es had ws
-    → ((g : ℕ) → isFace n g ≡ true → hasFace n met g ≡ isSelfMet f adHoc g)
+    → ((g : ℕ) → isFace n g ≡ true → hasFace n met g ≡ meetsOwn f adHoc g)
     → copies ≡ facesWhere n (λ g. hasFace n had g && not (hasFace n met g))
     → copies ≡ facesWhere n (isOwed f adHoc es)
 unfolding isOwed

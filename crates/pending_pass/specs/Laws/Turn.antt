@@ -26,11 +26,11 @@ use Rattle.pending_entry.specs.Operations.{askingFaces}
 use Rattle.pending_records.specs.Operations.{overdueFaces, noted, notedBy, notedOne}
 use Rattle.records.specs.Closing.{ownLineBy}
 use Rattle.pending_records.specs.Laws.Held.{only-where}
-use Rattle.pending_pass.specs.Lowest.{isSelfMet}
+use Rattle.pending_pass.specs.Lowest.{meetsOwn}
 use Rattle.pending_pass.specs.Satisfies.{dataFate, endsBy}
 use Rattle.records.specs.Closing.{withoutFace, closingLinesBy, closingEnds}
 use Rattle.pending_pass.specs.Places.Pass.{Work, notes, Turned, Leaves}
-use Rattle.pending_pass.specs.Places.Works.{ageing, satisfying, closing}
+use Rattle.pending_pass.specs.Places.Works.{ageingWork, satisfyingWork, closingWork}
 use Rattle.pending_pass.specs.Laws.Pass.{joined-append}
 use Rattle.pending_pass.specs.Laws.Faces.{only-all, some-holds, map-face, ending-one}
 
@@ -128,13 +128,13 @@ module _ {C : Type 0} (n : ℕ) (print : List ℕ → ℕ → ℕ) (now k : ℕ)
     (e : Entry) (p : atPlace k es ≡ some e) (wide : length (e .requests) ≡ n) where
   -- a turn of Data: the requests end, by a fate for each face, and the entry is buried and taken out
   pub turn-met : (asked : ℕ) → asked ≡ given 0 (askingFaces n) (atPlace k es) → (f : ℕ) (adHoc : Bool) (met : ℕ)
-      → ((g : ℕ) → isFace n g ≡ true → hasFace n met g ≡ isSelfMet f adHoc g)
+      → ((g : ℕ) → isFace n g ≡ true → hasFace n met g ≡ meetsOwn f adHoc g)
       → Notes mostRows made′ rs′ rs made
       (given [] (notedBy (λ g. pick (hasFace n met g) selfMet answered) now (hasFace n asked)) (atPlace k es))
       → (ls′ : List Line) → ls′ ≡ joinedAll mostDead ls (given [] (buriedBy print now) (atPlace k es))
       → (es′ : List Entry) → es′ ≡ without k es → (marks′ : C → List Bool) → ((c : C) → marks′ c ≡ without k (marks c))
-      → Turned (satisfying print now (dataFate f adHoc)) k e es marks ls rs made es′ marks′ ls′ rs′ made′
-  unfolding satisfying notes given dataFate
+      → Turned (satisfyingWork print now (dataFate f adHoc)) k e es marks ls rs made es′ marks′ ls′ rs′ made′
+  unfolding satisfyingWork notes given dataFate
   turn-met asked a f adHoc met same rows ls′ b es′ out marks′ m =
       let s : asked ≡ askingFaces n e = a ∙ rw p in
       let x : (ℕ → Fate) = (λ g. pick (hasFace n met g) selfMet answered) in
@@ -172,23 +172,23 @@ module _ {C : Type 0} (n : ℕ) (print : List ℕ → ℕ → ℕ) (now k : ℕ)
     -- a turn of ageing
     pub turn-aged : (over : ℕ) → over ≡ given 0 (overdueFaces n now) (atPlace k es)
         → Notes mostRows made′ rs′ rs made (given [] (noted expired now (hasFace n over)) (atPlace k es))
-        → es₁ ≡ onAt k (agedEntry now) es → ls₁ ≡ ls → Turned (ageing print now) k e es marks ls rs made es′ marks′ ls′ rs′ made′
-    unfolding ageing notes given joinedAll
+        → es₁ ≡ onAt k (agedEntry now) es → ls₁ ≡ ls → Turned (ageingWork print now) k e es marks ls rs made es′ marks′ ls′ rs′ made′
+    unfolding ageingWork notes given joinedAll
     turn-aged over a rows x y =
         let o : over ≡ overdueFaces n now e = a ∙ rw p in
         let b : given [] (noted expired now (hasFace n over)) (atPlace k es) ≡ map rowOf (expiries now e) =
         rw (p, o) (rows-over n now e wide) in
-        turn-leaves (ageing print now) [] refl refl x y (rw b at rows)
+        turn-leaves (ageingWork print now) [] refl refl x y (rw b at rows)
 
     -- a turn of closing a face
     pub turn-closed : (f : ℕ) → ls₁ ≡ joinedAll mostDead ls (given [] (ownLineBy print now f) (atPlace k es))
         → Notes mostRows made′ rs′ rs made (given [] (notedOne closed now f) (atPlace k es)) → (es₀ : List Entry)
         → es₀ ≡ onAt k (notSent f) es
         → es₁ ≡ onAt k (ending (hasFace n (withFace n 0 f))) es₀
-        → Turned (closing print now f) k e es marks ls rs made es′ marks′ ls′ rs′ made′
-    unfolding closing notes given closingLinesBy
+        → Turned (closingWork print now f) k e es marks ls rs made es′ marks′ ls′ rs′ made′
+    unfolding closingWork notes given closingLinesBy
     turn-closed f own rows es₀ x y =
         let b : given [] (notedOne closed now f) (atPlace k es) ≡ map rowOf (closingEnds now f e) = rw p (rows-closed now f e) in
         let z : es₁ ≡ onAt k (withoutFace f) es =
         y ∙ ap (onAt k (ending (hasFace n (withFace n 0 f)))) x ∙ on-closed n f k es e p wide in
-        turn-leaves (closing print now f) (ownLineBy print now f e) refl refl z (own ∙ rw p) (rw b at rows)
+        turn-leaves (closingWork print now f) (ownLineBy print now f e) refl refl z (own ∙ rw p) (rw b at rows)

@@ -24,7 +24,7 @@ use Rattle.pending_pass.specs.Satisfies.{dataFate, endsBy, Satisfies}
 use Rattle.pending_pass.specs.Closes.{Closes}
 use Rattle.records.specs.Closing.{closingLinesBy, closingEnds}
 use Rattle.pending_pass.specs.Places.Pass.{Work, notes, marked, after, passed, Passes}
-use Rattle.pending_pass.specs.Places.Works.{ageing, satisfying, closing}
+use Rattle.pending_pass.specs.Places.Works.{ageingWork, satisfyingWork, closingWork}
 
 -- those that a test marks are those that it holds of
 marked-only : {A : Type 0} (p : A → Bool) (l : List A) → marked (map p l) l ≡ only p l
@@ -144,11 +144,11 @@ module _ (now : ℕ) where
 module _ (print : List ℕ → ℕ → ℕ) (now : ℕ) (es : List Entry) (ls : List Line) (rs : List (List ℕ)) (made : ℕ) (ms : List Bool)
     (es′ : List Entry) (ls′ : List Line) (rs′ : List (List ℕ)) (made′ : ℕ) where
   -- the pass of ageing over the entries that it concerns, where there is a row for each request that expires
-  pub pass-ages : ms ≡ map (isDue now) es → Passes (ageing print now) ms es ls rs 0 es′ ls′ rs′ made′ → length (agedRows now es) ≤ mostRows
+  pub pass-ages : ms ≡ map (isDue now) es → Passes (ageingWork print now) ms es ls rs 0 es′ ls′ rs′ made′ → length (agedRows now es) ≤ mostRows
       → Ages print now es ls rs es′ ls′ rs′ made′
-  unfolding ageing agedPending agedLinesBy agedRows
+  unfolding ageingWork agedPending agedLinesBy agedRows
   pass-ages which q few =
-      let w = ageing print now in
+      let w = ageingWork print now in
       let p : Passes w (map (isDue now) es) es ls rs 0 es′ ls′ rs′ made′ = rw which at q in
       let m = marked-only (isDue now) es in
       let n : each (notes w) (marked (map (isDue now) es) es) ≡ map rowOf (each (expiries now) es) =
@@ -168,13 +168,13 @@ module _ (print : List ℕ → ℕ → ℕ) (now : ℕ) (es : List Entry) (ls : 
 
   -- the pass of Data over the entries that it matches, with their lowest classes and the faces of its copies
   pub pass-satisfies : (f : ℕ) (adHoc : Bool) (name : List ℕ) → ms ≡ map (matches name) es
-      → Passes (satisfying print now (dataFate f adHoc)) ms es ls rs made es′ ls′ rs′ made′
+      → Passes (satisfyingWork print now (dataFate f adHoc)) ms es ls rs made es′ ls′ rs′ made′
       → (ws : List ℕ) → ws ≡ classWords mostFaces (marked ms es) → (copies : ℕ)
       → copies ≡ facesWhere mostFaces (isOwed f adHoc (marked ms es))
       → Satisfies print now f adHoc name es ls rs made es′ ls′ rs′ made′ ws copies
-  unfolding satisfying
+  unfolding satisfyingWork
   pass-satisfies f adHoc name which q ws v copies u =
-      let w = satisfying print now (dataFate f adHoc) in
+      let w = satisfyingWork print now (dataFate f adHoc) in
       let p : Passes w (map (matches name) es) es ls rs made es′ ls′ rs′ made′ = rw which at q in
       let m = marked-only (matches name) es in
       let n : each (notes w) (marked (map (matches name) es) es) ≡ map rowOf
@@ -190,11 +190,11 @@ module _ (print : List ℕ → ℕ → ℕ) (now : ℕ) (es : List Entry) (ls : 
       }
 
   -- the pass of closing a face, over all entries
-  pub pass-closes : (f : ℕ) → ms ≡ map (λ _. true) es → Passes (closing print now f) ms es ls rs made es′ ls′ rs′ made′
+  pub pass-closes : (f : ℕ) → ms ≡ map (λ _. true) es → Passes (closingWork print now f) ms es ls rs made es′ ls′ rs′ made′
       → Closes print now f es ls rs made es′ ls′ rs′ made′
-  unfolding closing
+  unfolding closingWork
   pass-closes f which q =
-      let w = closing print now f in
+      let w = closingWork print now f in
       let p : Passes w (map (λ _. true) es) es ls rs made es′ ls′ rs′ made′ = rw which at q in
       let m = marked-all es in
       let n : each (notes w) (marked (map (λ _. true) es) es) ≡ map rowOf (each (closingEnds now f) es) =

@@ -11,8 +11,8 @@ use Rattle.records.specs.Closing.{withoutFace, closingLinesBy, closingEnds}
 use Rattle.pending_pass.specs.Places.Pass.{Work}
 
 -- ageing: the requests that are over end, an entry without requests leaves
-unfoldable pub ageing : (List ℕ → ℕ → ℕ) → ℕ → Work
-ageing print now = record {
+unfoldable pub ageingWork : (List ℕ → ℕ → ℕ) → ℕ → Work
+ageingWork print now = record {
   change = agedEntry now;
   stays = λ e. not (isIdle (agedEntry now e));
   buries = λ e. leaving print now (agedEntry now e);
@@ -20,12 +20,12 @@ ageing print now = record {
 }
 
 -- Data: all requests end, the entry leaves
-unfoldable pub satisfying : (List ℕ → ℕ → ℕ) → ℕ → (ℕ → Fate) → Work
-satisfying print now fate = record { change = λ e. e; stays = λ e. false; buries = buriedBy print now; ends = endsBy fate now }
+unfoldable pub satisfyingWork : (List ℕ → ℕ → ℕ) → ℕ → (ℕ → Fate) → Work
+satisfyingWork print now fate = record { change = λ e. e; stays = λ e. false; buries = buriedBy print now; ends = endsBy fate now }
 
 -- closing a face: its out-record and its request go, an entry without requests leaves
-unfoldable pub closing : (List ℕ → ℕ → ℕ) → ℕ → ℕ → Work
-closing print now f = record {
+unfoldable pub closingWork : (List ℕ → ℕ → ℕ) → ℕ → ℕ → Work
+closingWork print now f = record {
   change = withoutFace f;
   stays = λ e. not (isIdle (withoutFace f e));
   buries = closingLinesBy print now f;

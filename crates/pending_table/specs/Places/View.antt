@@ -6,7 +6,6 @@ use mathlib.Core.Path.{_≡_, refl, sym, ap, subst, _∙_}
 use mathlib.Core.Bool.{Bool, true, false, _&&_, and-false, true≢false}
 use mathlib.Core.List.{List, [], _∷_, _++_, map}
 use mathlib.Core.Option.{Option, none, some, Option·some-injective}
-use mathlib.Core.Logic.{_≢_}
 use native.Mathlib.Nat.{mod-eq-of-lt}
 use native.Mathlib.Omega.{arith}
 use denote.Ref.{now}
@@ -20,7 +19,7 @@ use borrow.Author.Tests.{lt-ltb, le-ltb, le-leb, lt-leb, ltb-true, ltb-false, eq
 use Rattle.laws.specs.Pick.{pick}
 use Rattle.laws.specs.Laws.Pick.{pick-yes, pick-no}
 use Rattle.laws.specs.Lists.{onAt, indexOf}
-use Rattle.laws.specs.Laws.Tab.{onAt-out, indexOf-le, indexOf-at}
+use Rattle.laws.specs.Laws.Tab.{onAt-out, indexOf-at}
 use Rattle.laws.specs.Digits.{member, removed}
 use Rattle.laws.specs.Laws.Digits.{member-no, digit-zero, digit-high, member-and, member-remove-same, member-remove-other}
 use Rattle.sizes.specs.Sizes.{mostFaces, mostEntries, mostName}
@@ -56,8 +55,8 @@ pub place : List ℕ → Pending → Handle → ℕ
 place numbers s h = placeIn (h .row) (rowsOf mostEntries numbers (s .used))
 
 -- the row of a handle's entry, past the last row where it has none
-unfoldable pub rowOf : Pending → Handle → ℕ
-rowOf s h = pick (member (h .row) (s .used)) (h .row) mostEntries
+unfoldable pub rowHeld : Pending → Handle → ℕ
+rowHeld s h = pick (member (h .row) (s .used)) (h .row) mostEntries
 
 -- the handle of the entry at a place, that of no entry past the last
 pub handleAt : List ℕ → Pending → ℕ → Handle
@@ -87,9 +86,9 @@ abbrev pub placeThen : Lent (List ℕ) → Pending → Handle → ℕ
 placeThen numbers s h = place (now (numbers .exit)) s h
 
 -- a handle's entry, if it has one
-abbrev pub entryOf : Lent (List (List ℕ)) → Lent (List (List ℕ)) → Lent (List (List (List ℕ))) → Lent (List ℕ) → Pending → Handle
+abbrev pub entryAt : Lent (List (List ℕ)) → Lent (List (List ℕ)) → Lent (List (List (List ℕ))) → Lent (List ℕ) → Pending → Handle
     → Option Entry
-entryOf names heads recs numbers s h = atPlace (placeOf numbers s h) (before names heads recs numbers s)
+entryAt names heads recs numbers s h = atPlace (placeOf numbers s h) (before names heads recs numbers s)
 
 -- the handle of a place at entry
 abbrev pub handleOf : Lent (List ℕ) → Pending → ℕ → Handle
@@ -140,13 +139,6 @@ module _ (n : ℕ) (names heads : List (List ℕ)) (recs : List (List (List ℕ)
   unfolding viewFor viewOf
   view-most =
       omega (arith, length-map (rowsOf mostEntries numbers (s .used)) (rowAt n names heads recs), rows-most mostEntries numbers (s .used))
-
-  -- a place is at most the number of entries
-  pub place-le : (h : Handle) → place numbers s h ≤ length (viewFor n names heads recs numbers s)
-  unfolding viewFor viewOf place placeIn
-  place-le h =
-      rw (length-map (rowsOf mostEntries numbers (s .used)) (rowAt n names heads recs))
-      (indexOf-le _ (rowsOf mostEntries numbers (s .used)))
 
   -- a used row is a handle of an entry
   pub place-there : (h : Handle) → h .row < mostEntries → member (h .row) (s .used) ≡ true
@@ -230,10 +222,10 @@ module _ (n : ℕ) (names heads : List (List ℕ)) (recs : List (List (List ℕ)
   place-past-last h k = place-past (viewFor n names heads recs numbers s) (place numbers s h) (omega (arith, place-not h k))
 
   -- the row of a handle that has an entry
-  module _ (h : Handle) (i : ℕ) (e : i ≡ rowOf s h) where
+  module _ (h : Handle) (i : ℕ) (e : i ≡ rowHeld s h) where
     -- below the number of rows it is a used row
     row-there : i < mostEntries → (i ≡ h .row) × (member (h .row) (s .used) ≡ true)
-    unfolding rowOf
+    unfolding rowHeld
     row-there l = go (member (h .row) (s .used)) refl
       where
         go : (b : Bool) → member (h .row) (s .used) ≡ b → (i ≡ h .row) × (member (h .row) (s .used) ≡ true)
@@ -242,7 +234,7 @@ module _ (n : ℕ) (names heads : List (List ℕ)) (recs : List (List (List ℕ)
 
     -- else there is none
     row-not : mostEntries ≤ i → (h .row < mostEntries) × (member (h .row) (s .used) ≡ true) → ⊥
-    unfolding rowOf
+    unfolding rowHeld
     row-not l q = omega (arith, q .0, e ∙ pick-yes _ _ _ (q .1))
 
     -- the handle's entry is that of its row

@@ -2,9 +2,9 @@
 -- Assumes nothing.
 use Prim.Native.Nat.{ℕ, suc, zero, _+_, _≤_, _<_}
 use mathlib.Core.Path.{_≡_, refl, sym, _∙_}
-use mathlib.Core.List.{List, [], _∷_, _++_}
+use mathlib.Core.List.{List, [], _∷_}
 use mathlib.Core.Option.{none, some}
-use lib.ListN.{length, take, drop, set}
+use lib.ListN.{length}
 use lib.Dec.{ltb, leb·suc-zero, leb·suc-suc}
 use borrow.Author.Tests.{lt-ltb}
 use native.Mathlib.Omega.{arith}
@@ -50,30 +50,9 @@ module _ {A : Type 0} where
   place-lt zero (b ∷ l) a e = omega arith
   place-lt (suc i) (b ∷ l) a e = omega (arith, place-lt i l a e)
 
-  -- an element stands first where those before it are dropped
-  pub place-drop : (i : ℕ) (l : List A) → atPlace i l ≡ atPlace 0 (drop i l)
-  unfolding atPlace
-  place-drop zero l = refl
-  place-drop (suc i) [] = refl
-  place-drop (suc i) (a ∷ l) = place-drop i l
-
-  -- with the element at a place, one more is taken
-  pub place-take : (i : ℕ) (l : List A) (a : A) → atPlace i l ≡ some a → take (suc i) l ≡ take i l ++ (a ∷ [])
-  unfolding atPlace
-  place-take i [] a e = let z : _≡_ {A = ℕ} 0 1 = cc in absurd (omega arith)
-  place-take zero (b ∷ l) a e = cc
-  place-take (suc i) (b ∷ l) a e = rw (place-take i l a e)
-
   -- the element at a place after its change
   pub place-onAt : (i : ℕ) (f : A → A) (l : List A) (a : A) → atPlace i l ≡ some a → atPlace i (onAt i f l) ≡ some (f a)
   unfolding atPlace onAt
   place-onAt i f [] a e = let z : _≡_ {A = ℕ} 0 1 = cc in absurd (omega arith)
   place-onAt zero f (b ∷ l) a e = cc
   place-onAt (suc i) f (b ∷ l) a e = place-onAt i f l a e
-
-  -- a change of the element at a place is a store of what it is changed to
-  pub place-set : (i : ℕ) (f : A → A) (l : List A) (a : A) → atPlace i l ≡ some a → onAt i f l ≡ set l i (f a)
-  unfolding atPlace onAt
-  place-set i f [] a e = refl
-  place-set zero f (b ∷ l) a e = cc
-  place-set (suc i) f (b ∷ l) a e = rw (place-set i f l a e)

@@ -4,7 +4,7 @@ use Prim.Native.Nat.{ℕ}
 use mathlib.Core.Path.{_≡_, refl, sym, _∙_, ap}
 use mathlib.Core.Logic.{_⊎_, inl, inr}
 use mathlib.Core.Bool.{Bool, true, false, _&&_, _||_, not}
-use mathlib.Core.List.{List, [], _∷_, _++_}
+use mathlib.Core.List.{List, [], _∷_}
 use mathlib.Core.Option.{Option, none, some}
 use lib.ListN.{length}
 use lib.Dec.{ltb, leb}
@@ -13,17 +13,16 @@ use Rattle.laws.specs.Pick.{pick}
 use Rattle.laws.specs.Laws.Pick.{pick-ind, pick-ap}
 use Rattle.wire.specs.declared.verdict.Verdict.{Verdict}
 use Rattle.wire.specs.Verdict.{isMalformed, isUnsupported}
-use Rattle.sizes.specs.Sizes.{mostPacket, mostComponents, mostName}
+use Rattle.sizes.specs.Sizes.{mostPacket, mostComponents, mostName, mostRoutes, mostEntries, mostCost}
 use Rattle.names.specs.Name.{counted}
 use Rattle.packethead.specs.Name.{nameCame}
 use Rattle.packets.specs.Meaning.{Ask, Offer, Heard, refused, asks, brings, nacks, heard}
-use Rattle.sizes.specs.Sizes.{mostPacket, mostRoutes, mostEntries, mostCost, mostName, mostComponents}
 use Rattle.records.specs.Class.{classOf, isClass}
 use Rattle.records.specs.Slots.{isSome, holds, given, isEmpty, only, atPlace}
 use Rattle.records.specs.Face.{isOpen, isLocalFace, isPeer}
 use Rattle.records.specs.Route.{Route, routeOf, longest, cheapestOf}
 use Rattle.records.specs.Laws.Least.{least-found}
-use Rattle.records.specs.Entry.{Entry, matches, roomTaken, withNack, allNacked, sentNonce}
+use Rattle.records.specs.Entry.{Entry, matches, withNack, allNacked, sentNonce}
 use Rattle.records.specs.Stored.{Hit, lookup}
 use Rattle.rules.specs.Node.{Node, What, packet, openFace, closeFace, setRoute, dropRoute, addHop, dropHop, Event}
 use Rattle.rules.specs.Outcome.{Outcome, quiet, nackFor}
@@ -32,7 +31,7 @@ use Rattle.rules.specs.Interest.{Arrival, eligible, entryOf, entryLoops, loops,
 use Rattle.rules.specs.Data.{satisfies, dataStep}
 use Rattle.rules.specs.Nack.{sentBack, endsByNack, nackedEntry, nackStep}
 use Rattle.rules.specs.Command.{byPrefix, openStep, closeStep, setRouteStep, onRoute, dropRouteStep, addHopStep, dropHopStep}
-use Rattle.rules.specs.Step.{arrives, whatStep, badFace, after, badTime, step}
+use Rattle.rules.specs.Step.{arrives, whatStep, badFace, afterAgeing, badTime, step}
 use Rattle.refusals.specs.Refusals.{Check, Clock, SmallBuffer, BadFace, FaceOpen, PacketSize, Malformed, Unsupported, NameSize, BadSetting, HopLimit, Scope, Loop, NoRoute, NoRoom, Unsolicited, StaleNack, TableFull, answerOf, prefixIn, nameIn}
 use Rattle.refusals.specs.Laws.Reading.{ifFine, overSize, isLong, Heeds, heard-heeds, heard-long}
 use Rattle.refusals.specs.Laws.Events.{testOf, onPacket, onAsk, onOffer, onNack}
@@ -364,7 +363,7 @@ firstAnswer t (c ∷ cs) = pick (t c) (answerOf c) (firstAnswer t cs)
 
 -- an event's answer is that of the first check whose test holds
 pub step-answer : (faces least : ℕ) (e : Event) (n : Node) → step faces least e n .answer ≡ firstAnswer (test faces least e n) order
-unfolding step firstAnswer order test laterAnswer quiet after
+unfolding step firstAnswer order test laterAnswer quiet afterAgeing
 step-answer faces least e n =
     rw (
       answer-pick (badTime n (e .time)) _ _,

@@ -32,7 +32,7 @@ use Rattle.rules.specs.Interest.{Arrival, eligible, entryOf, loops, newEntry, o
 use Rattle.rules.specs.Data.{satisfies, dataStep}
 use Rattle.rules.specs.Nack.{sentBack, endsByNack, nackedEntry, nackStep}
 use Rattle.rules.specs.Command.{byPrefix, openStep, closeStep, setRouteStep, onRoute, dropRouteStep, addHopStep, dropHopStep}
-use Rattle.rules.specs.Step.{arrives, whatStep, badFace, after, badTime, step}
+use Rattle.rules.specs.Step.{arrives, whatStep, badFace, afterAgeing, badTime, step}
 use Rattle.refusals.specs.Laws.Reading.{isLong, Heeds, heard-heeds, heard-long}
 use Rattle.records.specs.Happening.{Happening}
 
@@ -234,8 +234,8 @@ module _ (faces least : ℕ) (e : Event) (n : Node) where
   early a h = inr (sym (pick-yes (leb (numberOf a) 3) _ _ h))
 
   -- every other answer
-  late : (o : Outcome) → Leaves (aged (e .time) n) (e .what) o → Says (after (ageing (e .time) n) o)
-  unfolding refusal after
+  late : (o : Outcome) → Leaves (aged (e .time) n) (e .what) o → Says (afterAgeing (ageing (e .time) n) o)
+  unfolding refusal afterAgeing
   late o (inl q) = inl q
   late o (inr (h, q)) =
       let m = aged (e .time) n in
@@ -246,7 +246,7 @@ module _ (faces least : ℕ) (e : Event) (n : Node) where
             (o .answer);
         happenings = hs;
       } in
-      inr (ap (after (ageing (e .time) n)) q ∙ ap leaving (append-nil (ageing (e .time) n))
+      inr (ap (afterAgeing (ageing (e .time) n)) q ∙ ap leaving (append-nil (ageing (e .time) n))
       ∙ sym (pick-no (leb (numberOf (o .answer)) 3) _ _ h))
 
   -- every event

@@ -1,7 +1,7 @@
 -- What the events need of the routes: the cheapest hop by any test and what its answer says, whether a handle stands for a
 -- route, and setting a route in the order in which the rules ask.
 -- Assumes nothing.
-use Prim.Native.Nat.{ℕ, zero, suc, _+_, _≤_, _<_}
+use Prim.Native.Nat.{ℕ, zero, suc, _≤_}
 use mathlib.Core.Path.{_≡_, refl, sym, ap, _∙_}
 use mathlib.Core.Bool.{Bool, true, false, _||_, not}
 use mathlib.Core.List.{List, [], _∷_, _++_}
@@ -15,9 +15,8 @@ use Rattle.laws.specs.Pick.{pick}
 use Rattle.laws.specs.Laws.Pick.{pick-ind, pick-yes, pick-no}
 use Rattle.laws.specs.Lists.{onAt}
 use Rattle.faces.specs.Set.{hasFace, facesWhere}
-use Rattle.faces.specs.Laws.Set.{where-has}
+use Rattle.faces.specs.Laws.Least.{least-where}
 use Rattle.records.specs.Slots.{Held, given, atPlace, isSome, held, heldFrom, only, lessBy, leastBy, leastFace}
-use Rattle.records.specs.Laws.Face.{face-yes}
 use Rattle.records.specs.Class.{Class, classOf}
 use Rattle.records.specs.Route.{Route, routeOf, withClass, newRoute, longest, cheapestOf}
 use Rattle.routes.specs.declared.Routes.{Routes}
@@ -25,21 +24,11 @@ use Rattle.routes.specs.Places.View.{viewFor, view-hops, view-class}
 use Rattle.routes.specs.Operations.{isRoute, hasRoom, withRoute, longestAt, classWord}
 use Rattle.routes.specs.Laws.Longest.{longest-place}
 
--- tests that agree on the faces that have a slot hold of the same of what is kept
-only-ext : {A : Type 0} (p q : ℕ → Bool) (f : ℕ) (l : List (Option A)) → ((g : ℕ) → f ≤ g → g < f + length l → p g ≡ q g)
-    → only (λ h. p (h .face)) (heldFrom f l) ≡ only (λ h. q (h .face)) (heldFrom f l)
-unfolding only heldFrom
-only-ext p q f [] e = refl
-only-ext p q f (none ∷ l) e = only-ext p q (suc f) l (λ g a b. e g (omega arith) (omega arith))
-only-ext p q f (some x ∷ l) e =
-    rw (e f (omega arith) (omega arith), only-ext p q (suc f) l (λ g a b. e g (omega arith) (omega arith)))
-
 module _ (n : ℕ) (p : ℕ → Bool) where
   -- the cheapest hop in the set of the faces that p holds of is the cheapest that p holds of
   pub cheapest-where : (r : Route) → length (r .hops) ≡ n → cheapestOf (hasFace n (facesWhere n p)) r ≡ cheapestOf p r
-  unfolding cheapestOf leastFace held
-  cheapest-where r e =
-      rw (only-ext (hasFace n (facesWhere n p)) p 1 (r .hops) (λ g a b. where-has n g p (face-yes n g .1 (omega arith, omega arith))))
+  unfolding cheapestOf
+  cheapest-where r e = least-where n p (λ (c : ℕ). c) (r .hops) e
 
   module _ (names heads costs : List (List ℕ)) (s : Routes) where
     -- the same for the route at a place

@@ -29,7 +29,7 @@ use Rattle.rules.specs.Interest.{spent, eligible, requestOf, sentOf, ent
 use Rattle.rules.specs.Nack.{peersOf, nackOf, settled, endsByNack, nackedEntry, sentBack, nackStep}
 use Rattle.rules.specs.Node.{emptyNode, faceIn, opensFace, printOf, Node, Event}
 use Rattle.rules.specs.Outcome.{quiet, routeClass, nameClass, nacksTo, nackFor, Outcome}
-use Rattle.rules.specs.Step.{arrives, whatStep, badFace, after, badTime, step, run, outcomes, history}
+use Rattle.rules.specs.Step.{arrives, whatStep, badFace, afterAgeing, badTime, step, run, outcomes, history}
 
 -- the outcomes of a run, as they compute
 unfoldable pub computed : ℕ → ℕ → List Event → Node → List Outcome
@@ -44,5 +44,5 @@ unfolding pick indexOf onAt without number element components counted sameBytes 
     classOn copyOn copies satisfies dataStep spent eligible requestOf sentOf entryOf entryLoops atPlace loops forwards newEntry opens
     opensEntry noRoom mayOpen routed served asksAnew fromLocalFace nextHop resends sendsOn renews asksAgain asksEntry hopIsZero outOfScope
     interestStep markNacked withNack allNacked peersOf nackOf settled endsByNack nackedEntry sentNonce sentBack nackStep emptyNode faceIn
-    opensFace printOf happens quiet routeClass nameClass nacksTo nackFor arrives whatStep badFace after badTime step run outcomes history
+    opensFace printOf happens quiet routeClass nameClass nacksTo nackFor arrives whatStep badFace afterAgeing badTime step run outcomes history
 computed faces least es n = outcomes faces least es n

@@ -249,10 +249,6 @@ form-tests : (v n : ℕ) → regular v n ≡ true → (eqb n 1 || leb (128 ^ (n 
 unfolding regular
 form-tests v n e = and-both (eqb n 1 || leb (128 ^ (n - 1)) v) (ltb v (2 ^ 64)) e
 
--- "at most 64 bits"
-pub regular-fits : (v n : ℕ) → regular v n ≡ true → v < 2 ^ 64
-regular-fits v n e = ltb-true v (2 ^ 64) (form-tests v n e .1)
-
 -- "shortest form": the last of several groups is not 0
 pub regular-shortest : (v n : ℕ) → regular v n ≡ true → n ≢ 1 → 128 ^ (n - 1) ≤ v
 regular-shortest v n e more = leb-true (128 ^ (n - 1)) v (rw (ne-eqb n 1 more) at (form-tests v n e .0))

@@ -93,11 +93,6 @@ written-bytes (suc k) v h zero =
 written-bytes (suc k) v h (suc i) =
     pick-ind (λ (l : List ℕ). getD l (suc i) 0 < 256) (ltb v 128) _ _ (λ e. omega arith) (λ e. written-bytes k (v / 128) (omega arith) i)
 
--- what is written are bytes
-pub form-bytes : (v : ℕ) → v < 2 ^ 64 → (i : ℕ) → getD (tapeForm v) i 0 < 256
-unfolding tapeForm
-form-bytes v h = written-bytes 9 v (omega arith)
-
 -- a group in front of groups that have the form that is written has it too
 more-form : (b : ℕ) (l r : List ℕ) (w m k : ℕ) → 128 ≤ b → b < 256 → 0 < m → 128 ^ m ≤ b - 128 + 128 * w → suc m ≤ suc k
     → ((j : ℕ) → (m ≢ 1 → 128 ^ (m - 1) ≤ w) → m ≤ suc j → l ≡ tapeBytes j w ++ r)
