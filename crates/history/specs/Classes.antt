@@ -10,15 +10,9 @@ use Rattle.names.specs.Name.{sameBytes}
 use Rattle.records.specs.Class.{Class, classOf, isClass}
 use Rattle.records.specs.Route.{Route}
 use Rattle.rules.specs.Node.{Node, What, packet, clock, openFace, closeFace, setRoute, dropRoute, addHop, dropHop, Event}
-use Rattle.rules.specs.Step.{step}
+use Rattle.rules.specs.Step.{Book}
 use Rattle.history.specs.Lists.{All}
-use lib.Dec.{eqb}
-use Rattle.answers.specs.declared.Answer.{Answer}
-use Rattle.answers.specs.Number.{numberOf}
-
--- whether an answer is 0: the event is accepted
-abbrev pub isDone : Answer → Bool
-isDone a = eqb (numberOf a) 0
+use Rattle.history.specs.Moments.{lastOf}
 
 -- each route has one of the three classes, and so has each pending entry
 pub record Classed (n : Node) : Type 0 where
@@ -41,8 +35,6 @@ givenBy p (dropRoute q) x = pick (sameBytes p q) none x
 givenBy p (addHop f cost q) x = x
 givenBy p (dropHop f q) x = x
 
--- the class that events, one after the other, gave a prefix last, where x was it before; a refused event gives none
-unfoldable pub lastClass : ℕ → ℕ → List ℕ → List Event → Node → Option Class → Option Class
-lastClass faces least p [] n x = x
-lastClass faces least p (e ∷ es) n x =
-    lastClass faces least p es (step faces least e n .node) (pick (isDone (step faces least e n .answer)) (givenBy p (e .what) x) x)
+-- the class that events gave a prefix last by a rule book, where x was it before; a refused event gives none
+abbrev pub lastClass : Book → List ℕ → List Event → Node → Option Class → Option Class
+lastClass b p es n x = lastOf (λ m. givenBy p (m .event .what)) b es n x

@@ -1,13 +1,25 @@
 -- The sends of an event: by ascending face, and in the output buffer.
 -- Assumes nothing.
-use Prim.Native.Nat.{ℕ, _+_, _≤_, suc}
+use Prim.Native.Nat.{ℕ, _+_, _≤_, suc, max}
 use mathlib.Core.Path.{_≡_}
 use mathlib.Core.List.{List, [], _∷_}
 use lib.ListN.{length, take, drop}
-use Rattle.rules.specs.Outcome.{Send}
-use Rattle.rules.specs.Packed.{Placed}
+use Rattle.answers.specs.declared.Answer.{Answer}
+use Rattle.rules.specs.Outcome.{Kind, Send}
+use Rattle.history.specs.Lists.{Some, Pairs}
+use Rattle.rules.specs.Packed.{Placed, Packed}
 use lib.Dec.{eqb}
 use Rattle.records.specs.Slots.{only}
+
+-- "Nack 100", "Nack 150, for an Interest", "Nack 50": the answers to an Interest that send a Nack, each with its reason
+pub data NackedFor : Answer → ℕ → Type 0 where
+  loop : NackedFor Answer.Loop 100
+  noRoute : NackedFor Answer.NoRoute 150
+  noRoom : NackedFor Answer.NoRoom 50
+
+-- a packet of a kind leaves on a face, with these bytes
+abbrev pub Leaves : ℕ → Kind → List ℕ → List Send → Type 0
+Leaves f k bytes ss = Some (λ s. (s .face ≡ f) × ((s .kind ≡ k) × (s .bytes ≡ bytes))) ss
 
 -- a send's place in a buffer: it names the send's face, kind and class, and the send's bytes stand there
 pub record Stands (buffer : List ℕ) (s : Send) (p : Placed) : Type 0 where
@@ -32,3 +44,15 @@ Before room p = p .from + p .len ≤ room
 -- of a Nack: "At worst it has 290 bytes."
 abbrev pub mostNack : ℕ
 mostNack = 290
+
+-- where the last of what was written ends
+unfoldable pub filledTo : List Placed → ℕ
+filledTo [] = 0
+filledTo (p ∷ ps) = max (p .from + p .len) (filledTo ps)
+
+-- the buffer b, filled with sends, is x: each send's bytes stand at its place, the length is b's, and what lies behind the sends is b's
+pub record Filled (ss : List Send) (b : List ℕ) (x : Packed) : Type 0 where
+  pub stand : Pairs (Stands (x .buffer)) ss (x .places)
+  pub size : length (x .buffer) ≡ length b
+  pub within : filledTo (x .places) ≤ length b
+  pub rest : drop (filledTo (x .places)) (x .buffer) ≡ drop (filledTo (x .places)) b

@@ -13,12 +13,9 @@ use Rattle.records.specs.Face.{Face, isOpen}
 use Rattle.records.specs.Route.{Route}
 use Rattle.records.specs.Entry.{Entry, isIdle, roomTaken}
 use Rattle.records.specs.Stored.{Stored}
-use Rattle.records.specs.Happening.{Happening}
-use Rattle.sizes.specs.Sizes.{mostFaces, mostRoutes, mostEntries, mostStored, mostDead, mostName, mostPacket, mostCost, leastBuffer}
-use Rattle.rules.specs.Node.{Node, Event, emptyNode}
+use Rattle.sizes.specs.Sizes.{mostRoutes, mostEntries, mostStored, mostDead, mostName, mostPacket, mostCost}
+use Rattle.rules.specs.Node.{Node}
 use Rattle.history.specs.Lists.{All, Apart}
-use Rattle.rules.specs.Outcome.{Outcome}
-use Rattle.rules.specs.Step.{run, outcomes, history, paperNode}
 
 -- what is kept for a face is kept for an open one
 abbrev pub AtOpen : {A : Type 0} → List (Option Face) → List (Option A) → Type 0
@@ -83,19 +80,3 @@ pub record Shaped (faces : ℕ) (n : Node) : Type 0 where
   pub pending : PendingShaped faces (n .faces) (n .pending)
   pub store : StoreShaped (n .store)
   pub dead : length (n .dead) ≤ mostDead
-
--- the node that events lead to, from an empty one
-abbrev pub reached : (faces least : ℕ) → List Event → Node
-reached faces least es = run faces least es (emptyNode faces)
-
--- that node after events
-abbrev pub paperRun : List Event → Node
-paperRun es = run mostFaces leastBuffer es paperNode
-
--- the outcomes of its events
-abbrev pub paperOutcomes : List Event → List Outcome
-paperOutcomes es = outcomes mostFaces leastBuffer es paperNode
-
--- their history
-abbrev pub paperHistory : List Event → List Happening
-paperHistory es = history mostFaces leastBuffer es paperNode

@@ -14,7 +14,7 @@ use Rattle.sizes.specs.Sizes.{mostPacket, mostComponents, mostName}
 use Rattle.wire.specs.declared.verdict.Verdict.{Verdict}
 use Rattle.names.specs.Name.{counted, underLocalhost, underLocalhop}
 use Rattle.packethead.specs.Name.{nameCame}
-use Rattle.packets.specs.Meaning.{Ask, Offer, Heard, refused, asks, brings, nacks, heard}
+use Rattle.packets.specs.Meaning.{Ask, Offer, Heard, refused, asks, brings, nacks}
 use Rattle.sizes.specs.Sizes.{mostRoutes, mostEntries, mostPacket, mostName, mostComponents, mostCost, mostTime, deadTime}
 use Rattle.records.specs.Class.{Class, alarm, monitoring, bulk, isClass, reserve, isOf}
 use Rattle.records.specs.Slots.{slot}
@@ -25,6 +25,7 @@ use Rattle.records.specs.Stored.{Stored}
 use Rattle.records.specs.Line.{Line}
 use Rattle.rules.specs.Node.{Node, What, packet, openFace, closeFace, setRoute, dropRoute, addHop, dropHop, Event, faceIn, opensFace, printOf}
 use Rattle.rules.specs.Ageing.{aged}
+use Rattle.incoming.specs.Incoming.{Hears}
 
 -- ---- the checks
 
@@ -135,17 +136,13 @@ prefixIn (dropRoute p) = some p
 prefixIn (addHop f cost p) = some p
 prefixIn (dropHop f p) = some p
 
--- a packet on face f that means h
-abbrev pub Hears : What → ℕ → Heard → Type 0
-Hears w f h = (l : List ℕ) × (w ≡ packet f l) × (heard l ≡ h)
+-- an Interest comes in, whatever its bytes are as it leaves
+abbrev pub Asks : Node → What → ℕ → Ask → Type 0
+Asks n w f i = (bytes : List ℕ) × Hears n w f (asks i bytes)
 
--- it is an Interest, whatever its bytes are as it leaves
-abbrev pub Asks : What → ℕ → Ask → Type 0
-Asks w f i = (bytes : List ℕ) × Hears w f (asks i bytes)
-
--- it is a Data
-abbrev pub Brings : What → ℕ → Offer → Type 0
-Brings w f d = (bytes : List ℕ) × Hears w f (brings d bytes)
+-- a Data comes in
+abbrev pub Brings : Node → What → ℕ → Offer → Type 0
+Brings n w f d = (bytes : List ℕ) × Hears n w f (brings d bytes)
 
 -- the name of an Interest, a Data or a Nack
 unfoldable pub nameIn : Heard → Option (List ℕ)
@@ -276,16 +273,16 @@ abbrev pub LongPacket : What → Type 0
 LongPacket w = (f : ℕ) × (l : List ℕ) × (w ≡ packet f l) × (mostPacket < length l)
 
 -- a packet that its reading refuses by an answer: the words for a packet's 5 and 6 are the reader itself
-abbrev pub Unread : Answer → What → Type 0
-Unread a w = (f : ℕ) × Hears w f (refused a)
+abbrev pub Unread : Node → Answer → What → Type 0
+Unread n a w = (f : ℕ) × Hears n w f (refused a)
 
 -- 5: "bytes break the grammar", those of a packet or of a prefix
-abbrev pub BrokenBytes : What → Type 0
-BrokenBytes w = Unread Answer.Malformed w ⊎ ((p : List ℕ) × (prefixIn w ≡ some p) × (counted p .said ≡ Verdict.Malformed))
+abbrev pub BrokenBytes : Node → What → Type 0
+BrokenBytes n w = Unread n Answer.Malformed w ⊎ ((p : List ℕ) × (prefixIn w ≡ some p) × (counted p .said ≡ Verdict.Malformed))
 
 -- 6: "marked so below"
-abbrev pub MarkedBytes : What → Type 0
-MarkedBytes w = Unread Answer.Unsupported w ⊎ ((p : List ℕ) × (prefixIn w ≡ some p) × (counted p .said ≡ Verdict.Unsupported))
+abbrev pub MarkedBytes : Node → What → Type 0
+MarkedBytes n w = Unread n Answer.Unsupported w ⊎ ((p : List ℕ) × (prefixIn w ≡ some p) × (counted p .said ≡ Verdict.Unsupported))
 
 -- "Name at most 16 components and 255 bytes": a name is over its size
 abbrev pub OverSize : List ℕ → Type 0
@@ -305,21 +302,21 @@ WrongSetting w =
     ⊎ ((f : ℕ) × (cost : ℕ) × (p : List ℕ) × (w ≡ addHop f cost p) × (mostCost < cost))
 
 -- 7: "Interest with HopLimit 0, not inside a Nack"
-abbrev pub NoHopsLeft : What → Type 0
-NoHopsLeft w = (f : ℕ) × (i : Ask) × Asks w f i × (i .hop ≡ some 0)
+abbrev pub NoHopsLeft : Node → What → Type 0
+NoHopsLeft n w = (f : ℕ) × (i : Ask) × Asks n w f i × (i .hop ≡ some 0)
 
 -- 8: "Interest, Data or Nack under /localhost from a non-local face"
 abbrev pub OutOfScope : Node → What → Type 0
 OutOfScope n w =
-    (f : ℕ) × (h : Heard) × Hears w f h × ((name : List ℕ) × (nameIn h ≡ some name) × (underLocalhost name ≡ true)) × (¬ Local n f)
+    (f : ℕ) × (h : Heard) × Hears n w f h × ((name : List ℕ) × (nameIn h ≡ some name) × (underLocalhost name ≡ true)) × (¬ Local n f)
 
 -- 9: "LOOP: a live fingerprint equals this one; or the entry has the nonce .."
 abbrev pub Loops : ℕ → Node → What → Type 0
-Loops now n w = (f : ℕ) × (i : Ask) × Asks w f i × (DeadNonce now n i ⊎ EntryLoops n f i)
+Loops now n w = (f : ℕ) × (i : Ask) × Asks n w f i × (DeadNonce now n i ⊎ EntryLoops n f i)
 
 -- 10, for an Interest: "NO_ROUTE exactly when there is none or no next hop of it is eligible."
 abbrev pub Unrouted : ℕ → Node → What → Type 0
-Unrouted now n w = (f : ℕ) × (i : Ask) × Asks w f i × AsksAnew now n i × NoWay n f i
+Unrouted now n w = (f : ℕ) × (i : Ask) × Asks n w f i × AsksAnew now n i × NoWay n f i
 
 -- 10, for a command: "A hop or drop on something absent is 10."
 abbrev pub Absent : Node → What → Type 0
@@ -330,16 +327,16 @@ Absent n w =
 
 -- 11: "NO_ROOM exactly when the sum over the classes of the larger of reserve and use, counting the new entry, exceeds 64."
 abbrev pub Crowded : ℕ → Node → What → Type 0
-Crowded now n w = (f : ℕ) × (i : Ask) × Asks w f i × AsksAnew now n i × Full n i
+Crowded now n w = (f : ℕ) × (i : Ask) × Asks n w f i × AsksAnew now n i × Full n i
 
 -- 12: "Data matching no entry"
 abbrev pub Unasked : Node → What → Type 0
-Unasked n w = (f : ℕ) × (d : Offer) × Brings w f d × NoneOf (Matches d) (n .pending)
+Unasked n w = (f : ℕ) × (d : Offer) × Brings n w f d × NoneOf (Matches d) (n .pending)
 
 -- 13: "STALE_NACK exactly when the face is not point-to-point, or has no out-record with this nonce in that entry."
 abbrev pub Stale : Node → What → Type 0
 Stale n w =
-    (f : ℕ) × (reason : ℕ) × (i : Ask) × Hears w f (nacks reason i)
+    (f : ℕ) × (reason : ℕ) × (i : Ask) × Hears n w f (nacks reason i)
     × ((¬ PointToPoint n f) ⊎ ((x : Entry) → EntryOf n i x → ¬ OutRecord x f (i .nonce)))
 
 -- 16: "a 33rd route"
@@ -354,11 +351,11 @@ module _ (faces least : ℕ) (e : Event) (n : Node) where
   Applies BadFace = WrongFace faces n (e .what)
   Applies FaceOpen = OpensOpen (aged (e .time) n) (e .what)
   Applies PacketSize = LongPacket (e .what)
-  Applies Malformed = BrokenBytes (e .what)
-  Applies Unsupported = MarkedBytes (e .what)
+  Applies Malformed = BrokenBytes (aged (e .time) n) (e .what)
+  Applies Unsupported = MarkedBytes (aged (e .time) n) (e .what)
   Applies NameSize = LongName (e .what)
   Applies BadSetting = WrongSetting (e .what)
-  Applies HopLimit = NoHopsLeft (e .what)
+  Applies HopLimit = NoHopsLeft (aged (e .time) n) (e .what)
   Applies Scope = OutOfScope (aged (e .time) n) (e .what)
   Applies Loop = Loops (e .time) (aged (e .time) n) (e .what)
   Applies NoRoute = Unrouted (e .time) (aged (e .time) n) (e .what) ⊎ Absent (aged (e .time) n) (e .what)

@@ -1,45 +1,60 @@
--- Document 01, "Answer numbers": what a refusal leaves. The answer's number alone says which packets are sent, what happens to requests,
--- and what the node holds afterwards.
+-- Document 01, "Answer numbers": what a refusal leaves. The check that refuses says which packets are sent, what happens to requests, and
+-- what the node holds afterwards. It goes by the check and not by its number: two checks of one number may stand on either side of ageing
+-- (document 02, request 8).
 -- Assumes nothing.
 use Prim.Native.Nat.{ℕ}
 use mathlib.Core.List.{List, []}
+use mathlib.Core.Bool.{Bool}
 use mathlib.Core.Option.{Option, none, some}
-use lib.Dec.{leb, eqb}
-use Rattle.answers.specs.declared.Answer.{Answer}
-use Rattle.answers.specs.Number.{numberOf}
+use lib.Dec.{ltb}
 use Rattle.laws.specs.Pick.{pick}
-use Rattle.packets.specs.Meaning.{Heard, refused, asks, brings, nacks, heard}
-use Rattle.records.specs.Slots.{given}
-use Rattle.rules.specs.Node.{Node, What, packet, openFace, closeFace, setRoute, dropRoute, addHop, dropHop, Event}
+use Rattle.packethead.specs.Header.{Came}
+use Rattle.packets.specs.Meaning.{Heard, refused, asks, brings, nacks, cameMeans}
+use Rattle.records.specs.Slots.{given, Held}
+use Rattle.rules.specs.Node.{Node, What, Event}
 use Rattle.rules.specs.Outcome.{Send, Outcome, quiet, nacksTo}
 use Rattle.rules.specs.Ageing.{aged, ageing}
+use Rattle.incoming.specs.Incoming.{cameIn}
+use Rattle.refusals.specs.Refusals.{Check, Clock, SmallBuffer, BadFace, FaceOpen, PacketSize, Malformed, Unsupported, NameSize, BadSetting, HopLimit, Scope, Loop, NoRoute, NoRoom, Unsolicited, StaleNack, TableFull, place, answerOf}
 
--- the column "Sends": the reason of the Nack that an answer sends to an Interest's face, 9, 10 and 11 alone
-unfoldable pub nackReason : Answer → Option ℕ
-unfolding pick
-nackReason a = pick (eqb (numberOf a) 9) (some 100) (pick (eqb (numberOf a) 10) (some 150) (pick (eqb (numberOf a) 11) (some 50) none))
+-- "Checks run in this order: 1, 2, 3, ageing": whether a check comes before ageing
+unfoldable pub isEarly : Check → Bool
+isEarly c = ltb (place c) (place FaceOpen)
 
--- "for an Interest": what a refusal of a packet on face f sends
+-- the column "Sends": the reason of the Nack that a check sends to an Interest's face, LOOP, NO_ROUTE and NO_ROOM alone
+unfoldable pub nackReason : Check → Option ℕ
+nackReason Clock = none
+nackReason SmallBuffer = none
+nackReason BadFace = none
+nackReason FaceOpen = none
+nackReason PacketSize = none
+nackReason Malformed = none
+nackReason Unsupported = none
+nackReason NameSize = none
+nackReason BadSetting = none
+nackReason HopLimit = none
+nackReason Scope = none
+nackReason Loop = some 100
+nackReason NoRoute = some 150
+nackReason NoRoom = some 50
+nackReason Unsolicited = none
+nackReason StaleNack = none
+nackReason TableFull = none
+
+-- "for an Interest": what a refusal sends of a packet that came in on face f, with a Nack's reason or none
 unfoldable pub sendsFor : Node → ℕ → Option ℕ → Heard → List Send
 sendsFor n f r (asks i bytes) = given [] (nacksTo n f i) r
 sendsFor n f r (refused a) = []
 sendsFor n f r (brings d bytes) = []
 sendsFor n f r (nacks reason i) = []
 
--- what a refusal by an answer sends
-unfoldable pub refusalSends : Node → What → Answer → List Send
-refusalSends n (packet f l) a = sendsFor n f (nackReason a) (heard l)
-refusalSends n What.clock a = []
-refusalSends n (openFace f scope link) a = []
-refusalSends n (closeFace f) a = []
-refusalSends n (setRoute c p) a = []
-refusalSends n (dropRoute p) a = []
-refusalSends n (addHop f cost p) a = []
-refusalSends n (dropHop f p) a = []
+-- what a refusal by a check sends
+unfoldable pub refusalSends : Node → What → Check → List Send
+refusalSends n w c = given [] (λ (h : Held Came). sendsFor n (h .face) (nackReason c) (cameMeans (h .what))) (cameIn n w)
 
 -- "Answers 1 to 3 change nothing. Every other answer first moves the last time and ages the tables; a refusal changes nothing more."
-unfoldable pub refusal : Event → Node → Answer → Outcome
-refusal e n a =
+unfoldable pub refusal : Event → Node → Check → Outcome
+refusal e n c =
     let m = aged (e .time) n in
-    pick (leb (numberOf a) 3) (quiet a n)
-    (record { answer = a; node = m; sends = refusalSends m (e .what) a; happenings = ageing (e .time) n })
+    pick (isEarly c) (quiet (answerOf c) n)
+    (record { answer = answerOf c; node = m; sends = refusalSends m (e .what) c; happenings = ageing (e .time) n })

@@ -1,5 +1,5 @@
--- One event, whose "checks run in this order: 1, 2, 3, ageing, 14, ..", and a run of events with its history. For any number of faces and
--- any least buffer length; document 01's own node has 16 faces and asks for 8,192 bytes.
+-- One event, whose "checks run in this order: 1, 2, 3, ageing, 14, ..", and a run of events with its history, by any rule book. For any number of
+-- faces and any least buffer length; document 01's own node has 16 faces and asks for 8,192 bytes.
 -- Assumes nothing.
 use Prim.Native.Nat.{ℕ}
 use mathlib.Core.Bool.{Bool, _&&_, _||_, not}
@@ -58,20 +58,19 @@ step faces least e n =
     (pick (badFace faces n (e .what)) (quiet Answer.BadFace n)
     (afterAgeing (ageing (e .time) n) (whatStep faces (e .time) (aged (e .time) n) (e .what)))))
 
--- the node after events, one after the other
-unfoldable pub run : ℕ → ℕ → List Event → Node → Node
-run faces least [] n = n
-run faces least (e ∷ es) n = run faces least es (step faces least e n .node)
+-- a rule book: what a node does with an event
+abbrev pub Book : Type 0
+Book = Event → Node → Outcome
 
--- the outcomes of events, one after the other
-unfoldable pub outcomes : ℕ → ℕ → List Event → Node → List Outcome
-outcomes faces least [] n = []
-outcomes faces least (e ∷ es) n = step faces least e n ∷ outcomes faces least es (step faces least e n .node)
+-- the node after events, one after the other, by a rule book
+unfoldable pub run : Book → List Event → Node → Node
+run b [] n = n
+run b (e ∷ es) n = run b es (b e n .node)
 
 -- the history of events: all that happened to requests
-unfoldable pub history : ℕ → ℕ → List Event → Node → List Happening
-history faces least [] n = []
-history faces least (e ∷ es) n = step faces least e n .happenings ++ history faces least es (step faces least e n .node)
+unfoldable pub history : Book → List Event → Node → List Happening
+history b [] n = []
+history b (e ∷ es) n = b e n .happenings ++ history b es (b e n .node)
 
 -- document 01's node, which has 16 faces, before any event
 abbrev pub paperNode : Node

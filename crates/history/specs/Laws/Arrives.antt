@@ -1,22 +1,26 @@
--- An event that brings a packet: the face, and what the packet means.
+-- What came in, of the cases of an event.
 -- Assumes nothing.
 use Prim.Native.Nat.{ℕ}
-use mathlib.Core.Path.{_≡_}
-use mathlib.Core.List.{List}
+use mathlib.Core.Path.{_≡_, sym}
 use Rattle.packets.specs.Meaning.{asks, brings, nacks}
-use Rattle.rules.specs.Node.{packet, Event}
+use Rattle.rules.specs.Node.{Node, What, Event}
+use Rattle.rules.specs.Ageing.{aged}
+use Rattle.rules.specs.Outcome.{Outcome}
+use Rattle.history.specs.Moments.{Arrives}
 use Rattle.history.specs.Laws.Becomes.{HoldsInterest, HoldsData, HoldsNack}
-use Rattle.history.specs.Arrives.{Arrives}
 
-module _ (e : Event) (f : ℕ) (l : List ℕ) (came : e .what ≡ packet f l) where
-  -- of a packet that holds an Interest
-  pub interest-arrives : (q : HoldsInterest l) → Arrives e f (asks (q .ask) (q .bytes))
-  interest-arrives q = record { bytes = l; came = came; means = q .means }
+module _ (e : Event) (n : Node) (o : Outcome) (f : ℕ) {w : What} (came : e .what ≡ w) where
+  -- an Interest arrives
+  pub interest-arrives : (q : HoldsInterest (aged (e .time) n) w f)
+      → Arrives (record { event = e; before = n; outcome = o }) f (asks (q .ask) (q .bytes))
+  interest-arrives q = rw came (q .comes)
 
-  -- of a packet that holds a Data
-  pub data-arrives : (q : HoldsData l) → Arrives e f (brings (q .offer) (q .bytes))
-  data-arrives q = record { bytes = l; came = came; means = q .means }
+  -- a Data arrives
+  pub data-arrives : (q : HoldsData (aged (e .time) n) w f)
+      → Arrives (record { event = e; before = n; outcome = o }) f (brings (q .offer) (q .bytes))
+  data-arrives q = rw came (q .comes)
 
-  -- of a packet that holds a Nack
-  pub nack-arrives : (q : HoldsNack l) → Arrives e f (nacks (q .reason) (q .ask))
-  nack-arrives q = record { bytes = l; came = came; means = q .means }
+  -- a Nack arrives
+  pub nack-arrives : (q : HoldsNack (aged (e .time) n) w f)
+      → Arrives (record { event = e; before = n; outcome = o }) f (nacks (q .reason) (q .ask))
+  nack-arrives q = rw came (q .comes)

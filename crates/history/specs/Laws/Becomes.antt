@@ -15,94 +15,108 @@ use Rattle.packets.specs.Meaning.{Ask, Offer, Heard, asks, brings, nacks, heard
 use Rattle.packets.specs.Meaning as meaning
 use Rattle.sizes.specs.Sizes.{mostRoutes, mostCost, mostName}
 use Rattle.records.specs.Class.{classOf, isClass}
-use Rattle.records.specs.Slots.{given, setSlot, only, isEmpty, atPlace}
+use Rattle.records.specs.Slots.{given, holds, setSlot, only, isEmpty, atPlace}
 use Rattle.names.specs.Laws.Same.{both}
-use Rattle.records.specs.Face.{isFace, isOpen, isLocalFace}
+use Rattle.records.specs.Face.{isFace, isOpen, isLocalFace, isPeer}
 use Rattle.records.specs.Route.{Route, routeOf, withClass, newRoute, withHop, longest, cheapestOf}
-use Rattle.records.specs.Entry.{Entry, matches, withNack}
+use Rattle.records.specs.Entry.{Entry, matches, withNack, allNacked, sentNonce}
 use Rattle.records.specs.Stored.{Hit, lookup}
 use Rattle.rules.specs.Node.{Node, What, packet, clock, openFace, closeFace, setRoute, dropRoute, addHop, dropHop, Event, withPending, withFaces, withRoutes}
 use Rattle.rules.specs.Outcome.{Outcome, quiet, nackFor}
 use Rattle.rules.specs.Ageing.{aged, ageing}
-use Rattle.rules.specs.Interest.{Arrival, eligible, entryOf, newEntry, noRoom, opensEntry, mayOpen, routed, served, asksAnew, asksAgain, asksEntry, interestStep}
+use Rattle.rules.specs.Interest as rule
+use Rattle.rules.specs.Interest.{Arrival, eligible, entryOf, newEntry, opensEntry, mayOpen, routed, served, asksAnew, asksAgain, asksEntry, interestStep}
 use Rattle.rules.specs.Data.{satisfies, dataStep}
 use Rattle.rules.specs.Nack.{sentBack, endsByNack, nackedEntry, nackStep}
 use Rattle.rules.specs.Command.{faceOf, byPrefix, openStep, closeStep, setRouteStep, onRoute, dropRouteStep, addHopStep, dropHopStep}
 use Rattle.rules.specs.Step.{arrives, whatStep, badFace, afterAgeing, badTime, step}
-use Rattle.history.specs.Classes.{isDone}
+use Rattle.incoming.specs.Incoming.{Hears}
+use Rattle.incoming.specs.Laws.Incoming.{bytes-hears, hears-face, hears-opens}
+use Rattle.history.specs.Moments.{isDone}
+use Rattle.history.specs.Sends.{NackedFor, loop, noRoute, noRoom}
 
--- a packet that holds an Interest: what it asks, and its bytes as it leaves
-pub record HoldsInterest (l : List ℕ) : Type 0 where
-  pub ask : Ask
-  pub bytes : List ℕ
-  pub means : heard l ≡ asks ask bytes
+module _ (n : Node) (w : What) (f : ℕ) where
+  -- an Interest came in on face f: what it asks, and its bytes as it leaves
+  pub record HoldsInterest : Type 0 where
+    pub ask : Ask
+    pub bytes : List ℕ
+    pub comes : Hears n w f (asks ask bytes)
 
--- a packet that holds a Data: what it brings, and its bytes as it leaves
-pub record HoldsData (l : List ℕ) : Type 0 where
-  pub offer : Offer
-  pub bytes : List ℕ
-  pub means : heard l ≡ brings offer bytes
+  -- a Data came in: what it brings, and its bytes as it leaves
+  pub record HoldsData : Type 0 where
+    pub offer : Offer
+    pub bytes : List ℕ
+    pub comes : Hears n w f (brings offer bytes)
 
--- a packet that holds a Nack: the reason, and what the Interest in it asked
-pub record HoldsNack (l : List ℕ) : Type 0 where
-  pub reason : ℕ
-  pub ask : Ask
-  pub means : heard l ≡ nacks reason ask
+  -- a Nack came in: the reason, and what the Interest in it asked
+  pub record HoldsNack : Type 0 where
+    pub reason : ℕ
+    pub ask : Ask
+    pub comes : Hears n w f (nacks reason ask)
+
+-- a Nack on face f is one for an out-record of the entry, with this nonce
+pub record Fits (n : Node) (f nonce : ℕ) (e : Entry) : Type 0 where
+  pub peer : isPeer (n .faces) f ≡ true
+  pub sent : sentNonce f nonce e ≡ true
 
 -- what the Interest asks
-abbrev pub asked : {l : List ℕ} → HoldsInterest l → Ask
+abbrev pub asked : {n : Node} {w : What} {f : ℕ} → HoldsInterest n w f → Ask
 asked q = q .ask
 
 -- what the Data brings
-abbrev pub brought : {l : List ℕ} → HoldsData l → Offer
+abbrev pub brought : {n : Node} {w : What} {f : ℕ} → HoldsData n w f → Offer
 brought q = q .offer
 
 -- what the Interest asked that is Nacked
-abbrev pub denied : {l : List ℕ} → HoldsNack l → Ask
+abbrev pub denied : {n : Node} {w : What} {f : ℕ} → HoldsNack n w f → Ask
 denied q = q .ask
 
 -- an Interest as the rules are told of it, on the face where it came
-abbrev pub arrival : ℕ → {l : List ℕ} → HoldsInterest l → Arrival
+abbrev pub arrival : {n : Node} {w : What} (f : ℕ) → HoldsInterest n w f → Arrival
 arrival f q = record { face = f; ask = q .ask; bytes = q .bytes }
 
 module _ (faces now : ℕ) (n : Node) where
   -- what an event can come to past the first three checks, in a node that has aged
   pub data Past : What → Outcome → Type 0 where
+    -- a packet that its reading refuses
+    unread : {w : What} (f : ℕ) (a : Answer) → Hears n w f (meaning.refused a) → Past w (quiet a n)
     -- a packet that is refused with no Nack
-    refused : (f : ℕ) (l : List ℕ) (a : Answer) → Past (packet f l) (quiet a n)
+    refused : {w : What} (f : ℕ) (a : Answer) → isDone a ≡ false → Past w (quiet a n)
     -- a command that is refused
     turnedAway : (w : What) (a : Answer) → isDone a ≡ false → Past w (quiet a n)
     -- the clock is read
     ticked : Past clock (quiet Answer.Done n)
     -- an Interest that is refused, with a Nack where its face takes one
-    nackedBack : (f : ℕ) (l : List ℕ) (q : HoldsInterest l) (a : Answer) (reason : ℕ) → Past (packet f l) (nackFor a reason n f (asked q))
+    nackedBack : {w : What} (f : ℕ) (q : HoldsInterest n w f) (a : Answer) (reason : ℕ) → NackedFor a reason
+        → Past w (nackFor a reason n f (asked q))
     -- an Interest that the store serves
-    servedFrom : (f : ℕ) (l : List ℕ) (q : HoldsInterest l) (h : Hit)
+    servedFrom : {w : What} (f : ℕ) (q : HoldsInterest n w f) (h : Hit)
         → lookup now (asked q .name) (asked q .canBePrefix) (asked q .mustBeFresh) (n .store) ≡ some h
-        → Past (packet f l) (served n (arrival f q) h)
+        → atPlace (entryOf n (asked q)) (n .pending) ≡ none
+        → Past w (served n (arrival f q) h)
     -- an Interest that opens an entry
-    opened : (f : ℕ) (l : List ℕ) (q : HoldsInterest l) (r : Route) (h : ℕ)
+    opened : {w : What} (f : ℕ) (q : HoldsInterest n w f) (r : Route) (h : ℕ)
         → atPlace (entryOf n (asked q)) (n .pending) ≡ none
         → longest (asked q .name) (n .routes) ≡ some r
         → cheapestOf (eligible n (arrival f q) (isLocalFace (n .faces) f)) r ≡ some h
-        → noRoom n (newEntry now n (arrival f q) (r .cls) h) ≡ false
-        → Past (packet f l) (opensEntry now n (arrival f q) (r .cls) h)
+        → rule.noRoom n (newEntry now n (arrival f q) (r .cls) h) ≡ false
+        → Past w (opensEntry now n (arrival f q) (r .cls) h)
     -- an Interest whose entry is there
-    joined : (f : ℕ) (l : List ℕ) (q : HoldsInterest l) (e : Entry)
+    joined : {w : What} (f : ℕ) (q : HoldsInterest n w f) (e : Entry)
         → atPlace (entryOf n (asked q)) (n .pending) ≡ some e
-        → Past (packet f l) (asksAgain now n (arrival f q) (entryOf n (asked q)) e)
+        → Past w (asksAgain now n (arrival f q) (entryOf n (asked q)) e)
     -- a Data that ends the requests of the entries that it matches
-    satisfied : (f : ℕ) (l : List ℕ) (q : HoldsData l)
+    satisfied : {w : What} (f : ℕ) (q : HoldsData n w f)
         → isEmpty (only (matches (brought q .name)) (n .pending)) ≡ false
-        → Past (packet f l) (satisfies now n f (brought q) (q .bytes))
+        → Past w (satisfies now n f (brought q) (q .bytes))
     -- a Nack for an out-record, others being still without one
-    marked : (f : ℕ) (l : List ℕ) (q : HoldsNack l) (e : Entry)
-        → atPlace (entryOf n (denied q)) (n .pending) ≡ some e
-        → Past (packet f l) (quiet Answer.Done (withPending n (onAt (entryOf n (denied q)) (λ _. withNack f (q .reason) e) (n .pending))))
+    marked : {w : What} (f : ℕ) (q : HoldsNack n w f) (e : Entry)
+        → atPlace (entryOf n (denied q)) (n .pending) ≡ some e → Fits n f (denied q .nonce) e → allNacked (withNack f (q .reason) e) ≡ false
+        → Past w (quiet Answer.Done (withPending n (onAt (entryOf n (denied q)) (λ _. withNack f (q .reason) e) (n .pending))))
     -- a Nack that leaves all out-records Nacked
-    nackedOn : (f : ℕ) (l : List ℕ) (q : HoldsNack l) (e : Entry)
-        → atPlace (entryOf n (denied q)) (n .pending) ≡ some e
-        → Past (packet f l) (endsByNack now n (entryOf n (denied q)) (withNack f (q .reason) e))
+    nackedOn : {w : What} (f : ℕ) (q : HoldsNack n w f) (e : Entry)
+        → atPlace (entryOf n (denied q)) (n .pending) ≡ some e → Fits n f (denied q .nonce) e → allNacked (withNack f (q .reason) e) ≡ true
+        → Past w (endsByNack now n (entryOf n (denied q)) (withNack f (q .reason) e))
     -- a face is opened
     opensFace : (f scope link : ℕ) → isOpen (n .faces) f ≡ false
         → Past (openFace f scope link) (quiet Answer.Done (withFaces n (setSlot f (some (faceOf scope link)) (n .faces))))
@@ -126,79 +140,80 @@ module _ (faces now : ℕ) (n : Node) where
         → Past (dropHop f p) (quiet Answer.Done (withRoutes n (onAt (routeOf p (n .routes)) (withHop f none) (n .routes))))
 
   -- an Interest, by the route for it
-  routed-past : (f : ℕ) (l : List ℕ) (q : HoldsInterest l) → atPlace (entryOf n (asked q)) (n .pending) ≡ none
-      → (x : Option Route) → longest (asked q .name) (n .routes) ≡ x → Past (packet f l) (routed now n (arrival f q) x)
+  routed-past : {w : What} (f : ℕ) (q : HoldsInterest n w f) → atPlace (entryOf n (asked q)) (n .pending) ≡ none
+      → (x : Option Route) → longest (asked q .name) (n .routes) ≡ x → Past w (routed now n (arrival f q) x)
   unfolding routed given
-  routed-past f l q a none b = nackedBack f l q Answer.NoRoute 150
-  routed-past f l q a (some r) b = go (cheapestOf (eligible n (arrival f q) (isLocalFace (n .faces) f)) r) refl
+  routed-past {w} f q a none b = nackedBack f q Answer.NoRoute 150 noRoute
+  routed-past {w} f q a (some r) b = go (cheapestOf (eligible n (arrival f q) (isLocalFace (n .faces) f)) r) refl
     where
       go : (x : Option ℕ) → cheapestOf (eligible n (arrival f q) (isLocalFace (n .faces) f)) r ≡ x
-          → Past (packet f l) (routed now n (arrival f q) (some r))
-      go none c = rw c (nackedBack f l q Answer.NoRoute 150)
+          → Past w (routed now n (arrival f q) (some r))
+      go none c = rw c (nackedBack f q Answer.NoRoute 150 noRoute)
       go (some h) c =
-          rw c (unfold mayOpen in pick-ind (Past (packet f l)) (noRoom n (newEntry now n (arrival f q) (r .cls) h)) _ _
-          (λ _. nackedBack f l q Answer.NoRoom 50) (λ d. opened f l q r h a b c d))
+          rw c (unfold mayOpen in pick-ind (Past w) (rule.noRoom n (newEntry now n (arrival f q) (r .cls) h)) _ _
+          (λ _. nackedBack f q Answer.NoRoom 50 noRoom) (λ d. opened f q r h a b c d))
 
   -- an Interest past the checks
-  entry-past : (f : ℕ) (l : List ℕ) (q : HoldsInterest l) (x : Option Entry) → atPlace (entryOf n (asked q)) (n .pending) ≡ x
-      → Past (packet f l) (asksEntry now n (arrival f q) x)
+  entry-past : {w : What} (f : ℕ) (q : HoldsInterest n w f) (x : Option Entry) → atPlace (entryOf n (asked q)) (n .pending) ≡ x
+      → Past w (asksEntry now n (arrival f q) x)
   unfolding asksEntry
-  entry-past f l q (some e) a = joined f l q e a
-  entry-past f l q none a =
+  entry-past {w} f q (some e) a = joined f q e a
+  entry-past {w} f q none a =
       go (lookup now (asked q .name) (asked q .canBePrefix) (asked q .mustBeFresh) (n .store)) refl
     where
       go : (x : Option Hit) → lookup now (asked q .name) (asked q .canBePrefix) (asked q .mustBeFresh) (n .store) ≡ x
-          → Past (packet f l) (asksAnew now n (arrival f q) x)
-      go none b = unfold asksAnew in routed-past f l q a (longest (asked q .name) (n .routes)) refl
-      go (some h) b = unfold asksAnew in servedFrom f l q h b
+          → Past w (asksAnew now n (arrival f q) x)
+      go none b = unfold asksAnew in routed-past f q a (longest (asked q .name) (n .routes)) refl
+      go (some h) b = unfold asksAnew in servedFrom f q h b a
 
   -- an Interest
-  interest-past : (f : ℕ) (l : List ℕ) (q : HoldsInterest l) → Past (packet f l) (interestStep now n (arrival f q))
+  interest-past : {w : What} (f : ℕ) (q : HoldsInterest n w f) → Past w (interestStep now n (arrival f q))
   unfolding interestStep
-  interest-past f l q =
-      pick-ind (Past (packet f l)) _ _ _ (λ _. refused f l Answer.HopLimit)
-      (λ _. pick-ind (Past (packet f l)) _ _ _ (λ _. refused f l Answer.Scope)
-      (λ _. pick-ind (Past (packet f l)) _ _ _ (λ _. nackedBack f l q Answer.Loop 100)
-      (λ _. entry-past f l q (atPlace (entryOf n (asked q)) (n .pending)) refl)))
+  interest-past {w} f q =
+      pick-ind (Past w) _ _ _ (λ _. refused f Answer.HopLimit refl)
+      (λ _. pick-ind (Past w) _ _ _ (λ _. refused f Answer.Scope refl)
+      (λ _. pick-ind (Past w) _ _ _ (λ _. nackedBack f q Answer.Loop 100 loop)
+      (λ _. entry-past f q (atPlace (entryOf n (asked q)) (n .pending)) refl)))
 
   -- a Data
-  data-past : (f : ℕ) (l : List ℕ) (q : HoldsData l) → Past (packet f l) (dataStep now n f (brought q) (q .bytes))
+  data-past : {w : What} (f : ℕ) (q : HoldsData n w f) → Past w (dataStep now n f (brought q) (q .bytes))
   unfolding dataStep
-  data-past f l q =
-      pick-ind (Past (packet f l)) _ _ _ (λ _. refused f l Answer.Scope)
-      (λ _. pick-ind (Past (packet f l)) _ _ _ (λ _. refused f l Answer.Unsolicited) (λ a. satisfied f l q a))
+  data-past {w} f q =
+      pick-ind (Past w) _ _ _ (λ _. refused f Answer.Scope refl)
+      (λ _. pick-ind (Past w) _ _ _ (λ _. refused f Answer.Unsolicited refl) (λ a. satisfied f q a))
 
   -- a Nack for an out-record
-  nacked-past : (f : ℕ) (l : List ℕ) (q : HoldsNack l) (e : Entry) → atPlace (entryOf n (denied q)) (n .pending) ≡ some e
-      → Past (packet f l) (nackedEntry now n (entryOf n (denied q)) (withNack f (q .reason) e))
+  nacked-past : {w : What} (f : ℕ) (q : HoldsNack n w f) (e : Entry) → atPlace (entryOf n (denied q)) (n .pending) ≡ some e
+      → Fits n f (denied q .nonce) e → Past w (nackedEntry now n (entryOf n (denied q)) (withNack f (q .reason) e))
   unfolding nackedEntry
-  nacked-past f l q e a = pick-ind (Past (packet f l)) _ _ _ (λ _. nackedOn f l q e a) (λ _. marked f l q e a)
+  nacked-past {w} f q e a k =
+      pick-ind (Past w) (allNacked (withNack f (q .reason) e)) _ _ (λ b. nackedOn f q e a k b) (λ b. marked f q e a k b)
 
   -- a Nack
-  nack-past : (f : ℕ) (l : List ℕ) (q : HoldsNack l) → Past (packet f l) (nackStep now n f (q .reason) (denied q))
+  nack-past : {w : What} (f : ℕ) (q : HoldsNack n w f) → Past w (nackStep now n f (q .reason) (denied q))
   unfolding nackStep sentBack given
-  nack-past f l q = go (atPlace (entryOf n (denied q)) (n .pending)) refl
+  nack-past {w} f q = go (atPlace (entryOf n (denied q)) (n .pending)) refl
     where
       go : (x : Option Entry) → atPlace (entryOf n (denied q)) (n .pending) ≡ x
-          → Past (packet f l) (nackStep now n f (q .reason) (denied q))
+          → Past w (nackStep now n f (q .reason) (denied q))
       go none a =
-          rw a (pick-ind (Past (packet f l)) _ _ _ (λ _. refused f l Answer.Scope)
-          (λ _. pick-ind (Past (packet f l)) _ _ _ (λ _. refused f l Answer.StaleNack) (λ _. refused f l Answer.StaleNack)))
+          rw a (pick-ind (Past w) _ _ _ (λ _. refused f Answer.Scope refl)
+          (λ _. pick-ind (Past w) _ _ _ (λ _. refused f Answer.StaleNack refl) (λ _. refused f Answer.StaleNack refl)))
       go (some e) a =
-          rw a (pick-ind (Past (packet f l)) _ _ _ (λ _. refused f l Answer.Scope)
-          (λ _. pick-ind (Past (packet f l)) _ _ _
-          (λ _. pick-ind (Past (packet f l)) _ _ _
-          (λ _. nacked-past f l q e a)
-          (λ _. refused f l Answer.StaleNack))
-          (λ _. refused f l Answer.StaleNack)))
+          rw a (pick-ind (Past w) _ _ _ (λ _. refused f Answer.Scope refl)
+          (λ _. pick-ind (Past w) _ _ _
+          (λ p. pick-ind (Past w) _ _ _
+          (λ s. nacked-past f q e a (record { peer = p; sent = s }))
+          (λ _. refused f Answer.StaleNack refl))
+          (λ _. refused f Answer.StaleNack refl)))
 
   -- a packet, by what it means
-  packet-past : (f : ℕ) (l : List ℕ) (h : Heard) → heard l ≡ h → Past (packet f l) (arrives now n f h)
+  packet-past : {w : What} (f : ℕ) (h : Heard) → Hears n w f h → Past w (arrives now n f h)
   unfolding arrives
-  packet-past f l (meaning.refused a) e = refused f l a
-  packet-past f l (asks i b) e = interest-past f l (record { ask = i; bytes = b; means = e })
-  packet-past f l (brings d b) e = data-past f l (record { offer = d; bytes = b; means = e })
-  packet-past f l (nacks r i) e = nack-past f l (record { reason = r; ask = i; means = e })
+  packet-past f (meaning.refused a) k = unread f a k
+  packet-past f (asks i b) k = interest-past f (record { ask = i; bytes = b; comes = k })
+  packet-past f (brings d b) k = data-past f (record { offer = d; bytes = b; comes = k })
+  packet-past f (nacks r i) k = nack-past f (record { reason = r; ask = i; comes = k })
 
   -- a command by its prefix: refused, or what is done where the prefix is good
   prefix-past : (w : What) (p : List ℕ) (o : Outcome) → (length p ≤ mostName → Past w o) → Past w (byPrefix n p o)
@@ -258,7 +273,7 @@ module _ (faces now : ℕ) (n : Node) where
   -- each event past the first three checks comes to one of these
   pub past : (w : What) → Past w (whatStep faces now n w)
   unfolding whatStep
-  past (packet f l) = packet-past f l (heard l) refl
+  past (packet f l) = packet-past f (heard l) (bytes-hears n f l)
   past clock = ticked
   past (openFace f scope link) = open-past f scope link
   past (closeFace f) = closesFace f
@@ -280,6 +295,12 @@ good-face faces n f e =
     let a = both (isFace faces f) (isOpen (n .faces) f) (not-false (isFace faces f && isOpen (n .faces) f) e) in
     let b = both (leb 1 f) (leb f faces) (a .0) in
     record { low = leb-true 1 f (b .0); high = leb-true f faces (b .1); stands = a .1 }
+
+-- the face of a packet that came in is such, where the event's face is not bad
+pub came-face : (faces : ℕ) (n : Node) (w : What) (f : ℕ) (h : Heard) → Hears n w f h → badFace faces n w ≡ false → GoodFace faces n f
+unfolding badFace holds
+came-face faces n w f h k e =
+    good-face faces n f (rw (hears-face n f h w k, hears-opens n f h w k) at e)
 
 -- ageing opens and closes no face
 pub aged-face : (faces now : ℕ) (n : Node) (w : What) → badFace faces n w ≡ false → badFace faces (aged now n) w ≡ false

@@ -18,7 +18,7 @@ use Rattle.records.specs.Face.{isPeer}
 use Rattle.records.specs.Entry.{Request, Entry, withSent, withNack}
 use Rattle.sizes.specs.Sizes.{mostFaces, mostPacket, mostName, leastBuffer}
 use Rattle.history.specs.Sends.{mostNack}
-use Rattle.history.specs.Shape.{paperRun}
+use Rattle.history.specs.Moments.{paperRun}
 use Rattle.rules.specs.Node.{Node, What, Event}
 use Rattle.rules.specs.Outcome.{Kind, interest, dat, nack, Send, Outcome, quiet, nacksTo, nackFor}
 use Rattle.rules.specs.Ageing.{aged}
@@ -105,7 +105,7 @@ batch-fits faces room b h k (refusals n a) = unfold packed in nacks-from room 0 
 -- ---- what an event sends
 
 -- an Interest that is sent on
-forwards-short : {l : List ℕ} (f : ℕ) (q : HoldsInterest l) → length (arrival f q .bytes) ≤ mostPacket
+forwards-short : {n : Node} {w : What} (f : ℕ) (q : HoldsInterest n w f) → length (arrival f q .bytes) ≤ mostPacket
 forwards-short f q = interest-size q
 
 -- an Interest whose entry is there
@@ -144,18 +144,19 @@ module _ (faces : ℕ) (e : Event) (n : Node) (s : Shaped faces n) where
   -- whatever an event comes to past the first three checks
   past-batch : (w : What) (o : Outcome) → Past faces (e .time) n w o → Batch faces (o .sends)
   unfolding quiet opensEntry forwards asksAgain renews sendsOn served satisfies closeStep
-  past-batch w o (case.refused f l a) = empty
+  past-batch w o (case.unread f a k) = empty
+  past-batch w o (case.refused f a d) = empty
   past-batch w o (case.turnedAway v a d) = empty
   past-batch w o case.ticked = empty
-  past-batch w o (case.nackedBack f l q a reason) = refusal-batch faces a reason n f (asked q) (interest-name q .short)
-  past-batch w o (case.servedFrom f l q h found) =
+  past-batch w o (case.nackedBack f q a reason k) = refusal-batch faces a reason n f (asked q) (interest-name q .short)
+  past-batch w o (case.servedFrom f q h found absent) =
       single _ (all-in (s .store .each) (at-in (h .place) (h .what) (n .store) (lookup-takes (e .time) _ _ _ (n .store) h found .0)) .bytes)
-  past-batch w o (case.opened f l q r h a b c d) = single _ (forwards-short f q)
-  past-batch w o (case.joined f l q x a) = again-batch faces (arrival f q) _ _ (forwards-short f q)
-  past-batch w o (case.satisfied f l q a) =
+  past-batch w o (case.opened f q r h a b c d) = single _ (forwards-short f q)
+  past-batch w o (case.joined f q x a) = again-batch faces (arrival f q) _ _ (forwards-short f q)
+  past-batch w o (case.satisfied f q a) =
       copied (q .bytes) (data-size q) (all-mono (λ x c. (c .kind, c .same)) (copies-copied n f (q .bytes) _))
-  past-batch w o (case.marked f l q x a) = empty
-  past-batch w o (case.nackedOn f l q x a) =
+  past-batch w o (case.marked f q x a k z) = empty
+  past-batch w o (case.nackedOn f q x a k z) =
       let k = all-in (s .pending .each) (entry-in _ (n .pending) x a) in
       nacks-batch faces (e .time) n _ f (q .reason) x (k .name .short) (k .requests)
   past-batch w o (case.opensFace f scope link a) = empty

@@ -22,7 +22,7 @@ use Rattle.rules.specs.Data.{satisfies}
 use Rattle.rules.specs.Nack.{endsByNack}
 use Rattle.rules.specs.Command.{faceOf, closeStep}
 use Rattle.rules.specs.Step.{badFace, afterAgeing, step}
-use Rattle.history.specs.Laws.Becomes.{arrival, asked, brought, GoodFace, good-face, aged-face, Past, Becomes, ignored, taken, becomes}
+use Rattle.history.specs.Laws.Becomes.{arrival, asked, brought, GoodFace, good-face, came-face, aged-face, Past, Becomes, ignored, taken, becomes}
 use Rattle.history.specs.Laws.Becomes as case
 
 -- P holds of the outcome of each rule, for a node that has aged
@@ -59,16 +59,17 @@ pub record Rules (faces now : ℕ) (n : Node) (P : Outcome → Type 0) : Type 0 
 by-past : (faces now : ℕ) (n : Node) (P : Outcome → Type 0) → Rules faces now n P → (w : What) (o : Outcome) → badFace faces n w ≡ false
     → Past faces now n w o → P o
 unfolding badFace holds faceIn opensFace
-by-past faces now n P r w o fine (case.refused f l a) = r .quiets a
+by-past faces now n P r w o fine (case.unread f a k) = r .quiets a
+by-past faces now n P r w o fine (case.refused f a d) = r .quiets a
 by-past faces now n P r w o fine (case.turnedAway v a d) = r .quiets a
 by-past faces now n P r w o fine case.ticked = r .quiets Answer.Done
-by-past faces now n P r w o fine (case.nackedBack f l q a reason) = r .refuses a reason f (asked q)
-by-past faces now n P r w o fine (case.servedFrom f l q h found) = r .serves (arrival f q) h
-by-past faces now n P r w o fine (case.opened f l q x h a b c d) = r .opens (arrival f q) (x .cls) h (good-face faces n f fine) a
-by-past faces now n P r w o fine (case.joined f l q x a) = r .joins (arrival f q) x (good-face faces n f fine) a
-by-past faces now n P r w o fine (case.satisfied f l q a) = r .satisfied f (brought q) (q .bytes)
-by-past faces now n P r w o fine (case.marked f l q x a) = r .marks _ f (q .reason) x a
-by-past faces now n P r w o fine (case.nackedOn f l q x a) = r .nacks _ f (q .reason) x a
+by-past faces now n P r w o fine (case.nackedBack f q a reason k) = r .refuses a reason f (asked q)
+by-past faces now n P r w o fine (case.servedFrom f q h found absent) = r .serves (arrival f q) h
+by-past faces now n P r w o fine (case.opened f q x h a b c d) = r .opens (arrival f q) (x .cls) h (came-face faces n w f _ (q .comes) fine) a
+by-past faces now n P r w o fine (case.joined f q x a) = r .joins (arrival f q) x (came-face faces n w f _ (q .comes) fine) a
+by-past faces now n P r w o fine (case.satisfied f q a) = r .satisfied f (brought q) (q .bytes)
+by-past faces now n P r w o fine (case.marked f q x a k z) = r .marks _ f (q .reason) x a
+by-past faces now n P r w o fine (case.nackedOn f q x a k z) = r .nacks _ f (q .reason) x a
 by-past faces now n P r w o fine (case.opensFace f scope link a) = r .opensFace f (faceOf scope link)
 by-past faces now n P r w o fine (case.closesFace f) = r .closesFace f (good-face faces n f fine)
 by-past faces now n P r w o fine (case.setsClass c p a b) = r .setsClass _ (classOf c)

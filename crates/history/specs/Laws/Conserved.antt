@@ -75,7 +75,7 @@ module _ (p : Key → Bool) where
 
   -- every run balances
   pub run-balanced : (faces least : ℕ) (es : List Event) (n : Node) → Shaped faces n
-      → Balanced p (n .pending) (history faces least es n) (run faces least es n .pending)
+      → Balanced p (n .pending) (history (step faces least) es n) (run (step faces least) es n .pending)
   unfolding history run
   run-balanced faces least [] n s = balanced-none (n .pending)
   run-balanced faces least (e ∷ es) n s =
@@ -85,16 +85,16 @@ module _ (p : Key → Bool) where
 
   -- FROM THE EMPTY NODE, THROUGH ANY EVENTS
   pub conserved : (faces least : ℕ) (es : List Event)
-      → Accounted p (history faces least es (emptyNode faces)) (run faces least es (emptyNode faces) .pending)
+      → Accounted p (history (step faces least) es (emptyNode faces)) (run (step faces least) es (emptyNode faces) .pending)
   unfolding emptyNode openNow
   conserved faces least es =
       omega (
         arith,
         run-balanced faces least es (emptyNode faces) (empty-shaped faces),
-        ended-sum (history faces least es (emptyNode faces)),
+        ended-sum (history (step faces least) es (emptyNode faces)),
       )
 
 -- FOR EVERY FACE
 pub conserved-face : (f faces least : ℕ) (es : List Event)
-    → Accounted (ofFace f) (history faces least es (emptyNode faces)) (run faces least es (emptyNode faces) .pending)
+    → Accounted (ofFace f) (history (step faces least) es (emptyNode faces)) (run (step faces least) es (emptyNode faces) .pending)
 conserved-face f = conserved (ofFace f)

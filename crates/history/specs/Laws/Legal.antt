@@ -130,7 +130,7 @@ module _ (q : Key → Bool) (o : OfOne q) where
 
   -- every run takes turns
   pub run-legal : (faces least : ℕ) (es : List Event) (n : Node) → Shaped faces n
-      → Legal q (stands q (n .pending)) (history faces least es n) (stands q (run faces least es n .pending))
+      → Legal q (stands q (n .pending)) (history (step faces least) es n) (stands q (run (step faces least) es n .pending))
   unfolding history run
   run-legal faces least [] n s = unfold turns in refl
   run-legal faces least (e ∷ es) n s =
@@ -140,7 +140,7 @@ module _ (q : Key → Bool) (o : OfOne q) where
 
   -- from the empty node, where it is not open
   pub legal-of : (faces least : ℕ) (es : List Event)
-      → Legal q false (history faces least es (emptyNode faces)) (stands q (run faces least es (emptyNode faces) .pending))
+      → Legal q false (history (step faces least) es (emptyNode faces)) (stands q (run (step faces least) es (emptyNode faces) .pending))
   legal-of faces least es =
       let z : stands q (emptyNode faces .pending) ≡ false = unfold emptyNode stands anyOf in refl in
       rw z at (run-legal faces least es (emptyNode faces) (empty-shaped faces))
@@ -167,36 +167,36 @@ narrow q r o = record {
 module _ (faces least : ℕ) (es : List Event) where
   -- TAKING TURNS: an opening finds the request not open, an end finds it open, and at the end it is open where it stands in the table
   pub legal : (f : ℕ) (name : List ℕ) (p m : Bool)
-      → Legal (isOf f name p m) false (history faces least es (emptyNode faces))
-      (stands (isOf f name p m) (run faces least es (emptyNode faces) .pending))
+      → Legal (isOf f name p m) false (history (step faces least) es (emptyNode faces))
+      (stands (isOf f name p m) (run (step faces least) es (emptyNode faces) .pending))
   legal f name p m = legal-of (isOf f name p m) (of-one f name p m) faces least es
 
   -- AT MOST ONE OPEN: it opened as often as it ended, and once more where it stands in the table
   pub open-or-ended : (f : ℕ) (name : List ℕ) (p m : Bool)
-      → counted opened (isOf f name p m) (history faces least es (emptyNode faces))
-      ≡ ended (isOf f name p m) (history faces least es (emptyNode faces))
-      + one (stands (isOf f name p m) (run faces least es (emptyNode faces) .pending))
+      → counted opened (isOf f name p m) (history (step faces least) es (emptyNode faces))
+      ≡ ended (isOf f name p m) (history (step faces least) es (emptyNode faces))
+      + one (stands (isOf f name p m) (run (step faces least) es (emptyNode faces) .pending))
   open-or-ended f name p m = omega (arith, legal-counts (isOf f name p m) _ _ _ (legal f name p m))
 
   -- before a happening, its request is as the happening has to find it
-  found : (s t : List Happening) (h : Happening) → history faces least es (emptyNode faces) ≡ s ++ (h ∷ t)
+  found : (s t : List Happening) (h : Happening) → history (step faces least) es (emptyNode faces) ≡ s ++ (h ∷ t)
       → Legal (like h) false s (isEnd (h .fate))
   found s t h w = legal-at (like h) false _ s t h (like-refl h) (rw w at (legal-of (like h) (like-one h) faces least es)) .0
 
   -- AN END FINDS ITS REQUEST OPEN: before it, the request opened once more than it ended
-  pub end-finds-one : (s t : List Happening) (h : Happening) → history faces least es (emptyNode faces) ≡ s ++ (h ∷ t)
+  pub end-finds-one : (s t : List Happening) (h : Happening) → history (step faces least) es (emptyNode faces) ≡ s ++ (h ∷ t)
       → isEnd (h .fate) ≡ true
       → counted opened (like h) s ≡ ended (like h) s + 1
   end-finds-one s t h w e = omega (arith, legal-counts (like h) false true s (rw e at (found s t h w)))
 
   -- AN OPENING FINDS ITS REQUEST NOT OPEN: before it, the request opened as often as it ended
-  pub opening-finds-none : (s t : List Happening) (h : Happening) → history faces least es (emptyNode faces) ≡ s ++ (h ∷ t)
+  pub opening-finds-none : (s t : List Happening) (h : Happening) → history (step faces least) es (emptyNode faces) ≡ s ++ (h ∷ t)
       → isEnd (h .fate) ≡ false
       → counted opened (like h) s ≡ ended (like h) s
   opening-finds-none s t h w e = omega (arith, legal-counts (like h) false false s (rw e at (found s t h w)))
 
   -- BETWEEN TWO ENDS OF A REQUEST IT OPENS: y is of the face, name and flags of x
-  pub opening-between : (s t u : List Happening) (x y : Happening) → history faces least es (emptyNode faces) ≡ s ++ (x ∷ (t ++ (y ∷ u)))
+  pub opening-between : (s t u : List Happening) (x y : Happening) → history (step faces least) es (emptyNode faces) ≡ s ++ (x ∷ (t ++ (y ∷ u)))
       → isEnd (x .fate) ≡ true → isEnd (y .fate) ≡ true → like x (keyOf y) ≡ true → 1 ≤ counted opened (like x) t
   opening-between s t u x y w e f k =
       let a = legal-at (like x) false _ s (t ++ (y ∷ u)) x (like-refl x) (rw w at (legal-of (like x) (like-one x) faces least es)) .1 in
@@ -204,7 +204,7 @@ module _ (faces least : ℕ) (es : List Event) where
       omega (arith, legal-counts (like x) false true t b)
 
   -- EACH END HAS ITS OPENING: the last happening of its request before it is an opening, of the same face, name, flags and class
-  pub each-end : (s t : List Happening) (h : Happening) → history faces least es (emptyNode faces) ≡ s ++ (h ∷ t) → isEnd (h .fate) ≡ true
+  pub each-end : (s t : List Happening) (h : Happening) → history (step faces least) es (emptyNode faces) ≡ s ++ (h ∷ t) → isEnd (h .fate) ≡ true
       → (o : Opening (like h) s) × (keyOf (o .opening) ≡ keyOf h)
   each-end s t h w e = (o, like-equal h (o .opening) (o .own) kind)
     where

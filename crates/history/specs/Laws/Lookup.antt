@@ -11,7 +11,7 @@ use Rattle.records.specs.Stored.{Stored, serves, Hit, lookup}
 use Rattle.records.specs.Laws.Lookup as records
 
 -- the element at a place is the one that the library gives
-element-at : {A : Type 0} (i : ℕ) (l : List A) → getElem? l i ≡ atPlace i l
+pub element-at : {A : Type 0} (i : ℕ) (l : List A) → getElem? l i ≡ atPlace i l
 unfolding atPlace
 element-at zero [] = refl
 element-at (suc i) [] = refl

@@ -29,7 +29,7 @@ use Rattle.rules.specs.Command.{closeStep}
 use Rattle.rules.specs.Step.{badFace, afterAgeing, step}
 use Rattle.history.specs.Laws.Hops.{cheapest-may, resends-may}
 use Rattle.history.specs.Laws.Known.{withRequest, onward}
-use Rattle.history.specs.Laws.Becomes.{arrival, good-face, Past, Becomes, ignored, taken, becomes, asked}
+use Rattle.history.specs.Laws.Becomes.{aged-face, arrival, came-face, Past, Becomes, ignored, taken, becomes, asked}
 use Rattle.history.specs.Laws.Becomes as case
 use Rattle.history.specs.Sends.{Rising, done, next, sentTo}
 
@@ -98,22 +98,23 @@ unfolding given forwards
 again-rises a c none k = done
 again-rises a c (some h) k = one-rises _ (k h refl)
 
-module _ (faces now : ℕ) (n m : Node) where
+module _ (faces now : ℕ) (m : Node) where
   -- whatever an event comes to past the first three checks
-  past-rises : (w : What) (o : Outcome) → badFace faces n w ≡ false → Past faces now m w o → Rising 1 (o .sends)
+  past-rises : (w : What) (o : Outcome) → badFace faces m w ≡ false → Past faces now m w o → Rising 1 (o .sends)
   unfolding quiet opensEntry forwards asksAgain renews sendsOn satisfies served badFace holds faceIn opensFace closeStep endsByNack
       peersOf held
-  past-rises w o fine (case.refused f l a) = done
+  past-rises w o fine (case.unread f a k) = done
+  past-rises w o fine (case.refused f a d) = done
   past-rises w o fine (case.turnedAway v a d) = done
   past-rises w o fine case.ticked = done
-  past-rises w o fine (case.nackedBack f l q a reason) = refusal-rises a reason m f (asked q) (good-face faces n f fine .low)
-  past-rises w o fine (case.servedFrom f l q h found) = one-rises _ (good-face faces n f fine .low)
-  past-rises w o fine (case.opened f l q r h a b c d) = one-rises _ (cheapest-may m (arrival f q) _ r h c .face)
-  past-rises w o fine (case.joined f l q x a) =
+  past-rises w o fine (case.nackedBack f q a reason k) = refusal-rises a reason m f (asked q) (came-face faces m w f _ (q .comes) fine .low)
+  past-rises w o fine (case.servedFrom f q h found absent) = one-rises _ (came-face faces m w f _ (q .comes) fine .low)
+  past-rises w o fine (case.opened f q r h a b c d) = one-rises _ (cheapest-may m (arrival f q) _ r h c .face)
+  past-rises w o fine (case.joined f q x a) =
       again-rises (arrival f q) _ _ (λ h k. resends-may now m (arrival f q) (withRequest now (arrival f q) x) h k .face)
-  past-rises w o fine (case.satisfied f l q a) = copies-rise m f (q .bytes) _ 1 (m .faces)
-  past-rises w o fine (case.marked f l q x a) = done
-  past-rises w o fine (case.nackedOn f l q x a) = nacks-rise _ _ 1 _
+  past-rises w o fine (case.satisfied f q a) = copies-rise m f (q .bytes) _ 1 (m .faces)
+  past-rises w o fine (case.marked f q x a k z) = done
+  past-rises w o fine (case.nackedOn f q x a k z) = nacks-rise _ _ 1 _
   past-rises w o fine (case.opensFace f scope link a) = done
   past-rises w o fine (case.closesFace f) = done
   past-rises w o fine (case.setsClass c p a b) = done
@@ -127,7 +128,7 @@ module _ (faces least : ℕ) (e : Event) (n : Node) where
   by-case : (o : Outcome) → Becomes faces least e n o → Rising 1 (o .sends)
   unfolding quiet afterAgeing
   by-case o (ignored a d) = done
-  by-case o (taken p t f k) = past-rises faces (e .time) n (aged (e .time) n) (e .what) p f k
+  by-case o (taken p t f k) = past-rises faces (e .time) (aged (e .time) n) (e .what) p (aged-face faces (e .time) n (e .what) f) k
 
   -- in any event, from any node: the faces of what is sent ascend strictly, from 1 on
   pub sends-rise : Rising 1 (step faces least e n .sends)

@@ -38,10 +38,11 @@ use Rattle.history.specs.Laws.Holding.{length-noSlots}
 use Rattle.records.specs.Laws.Slot.{length-set-slot}
 use Rattle.history.specs.Laws.Hops.{MayTake, cheapest-may, resends-may}
 use Rattle.history.specs.Laws.Lookup.{lookup-takes}
-use Rattle.history.specs.Laws.Becomes.{aged-face, arrival, GoodFace, good-face, Past, Becomes, ignored, taken, becomes, asked, brought}
+use Rattle.history.specs.Laws.Becomes.{aged-face, arrival, GoodFace, good-face, came-face, Past, Becomes, ignored, taken, becomes, asked, brought}
 use Rattle.history.specs.Laws.Becomes as case
 use Rattle.history.specs.Laws.Names.{interest-name, data-name, data-size}
-use Rattle.history.specs.Shape.{RoutesShaped, PendingShaped, Shaped, reached}
+use Rattle.history.specs.Moments.{reached}
+use Rattle.history.specs.Shape.{RoutesShaped, PendingShaped, Shaped}
 use Rattle.history.specs.Laws.Known.{entry-in, entry-changed, withRequest, sentOn, withoutPeer}
 use Rattle.history.specs.Laws.Tables.{asked-entry, sent-entry, new-entry, nacked-entry, fewer-entry, aged-pending, opened-pending, changed-pending, only-pending, without-pending, closed-pending, more-pending, added-routes, classed-routes, hopped-routes, dropped-routes, without-routes, closed-routes, more-routes, stored-shaped, touched-shaped, dead-few}
 
@@ -200,18 +201,19 @@ module _ (faces now : ℕ) (n : Node) (s : Shaped faces n) where
   -- whatever an event comes to past the first three checks
   past-shaped : (w : What) (o : Outcome) → badFace faces n w ≡ false → Past faces now n w o → Shaped faces (o .node)
   unfolding quiet badFace holds faceIn opensFace
-  past-shaped w o fine (case.refused f l a) = s
+  past-shaped w o fine (case.unread f a k) = s
+  past-shaped w o fine (case.refused f a d) = s
   past-shaped w o fine (case.turnedAway v a d) = s
   past-shaped w o fine case.ticked = s
-  past-shaped w o fine (case.nackedBack f l q a reason) = refusal-shaped a reason f (asked q)
-  past-shaped w o fine (case.servedFrom f l q h found) = served-shaped (arrival f q) h (lookup-takes now _ _ _ (n .store) h found .0)
-  past-shaped w o fine (case.opened f l q r h a b c d) =
-      opened-shaped (arrival f q) (r .cls) h (interest-name q) (good-face faces n f fine)
+  past-shaped w o fine (case.nackedBack f q a reason k) = refusal-shaped a reason f (asked q)
+  past-shaped w o fine (case.servedFrom f q h found absent) = served-shaped (arrival f q) h (lookup-takes now _ _ _ (n .store) h found .0)
+  past-shaped w o fine (case.opened f q r h a b c d) =
+      opened-shaped (arrival f q) (r .cls) h (interest-name q) (came-face faces n w f _ (q .comes) fine)
       (may-open n (arrival f q) _ h (cheapest-may n (arrival f q) _ r h c)) a d
-  past-shaped w o fine (case.joined f l q x a) = again-shaped (arrival f q) _ x (good-face faces n f fine) a
-  past-shaped w o fine (case.satisfied f l q a) = satisfied-shaped f (brought q) (q .bytes) (data-name q) (data-size q)
-  past-shaped w o fine (case.marked f l q x a) = with-pending _ (marked-shaped _ f (q .reason) x a)
-  past-shaped w o fine (case.nackedOn f l q x a) = settled-shaped _ f (q .reason) x a
+  past-shaped w o fine (case.joined f q x a) = again-shaped (arrival f q) _ x (came-face faces n w f _ (q .comes) fine) a
+  past-shaped w o fine (case.satisfied f q a) = satisfied-shaped f (brought q) (q .bytes) (data-name q) (data-size q)
+  past-shaped w o fine (case.marked f q x a k z) = with-pending _ (marked-shaped _ f (q .reason) x a)
+  past-shaped w o fine (case.nackedOn f q x a k z) = settled-shaped _ f (q .reason) x a
   past-shaped w o fine (case.opensFace f scope link a) = more-shaped f (faceOf scope link)
   past-shaped w o fine (case.closesFace f) = closed-shaped f
   past-shaped w o fine (case.setsClass c p a b) = with-routes _ (classed-routes faces (n .faces) _ (classOf c) (n .routes) (s .routes))
@@ -236,11 +238,11 @@ module _ (faces least : ℕ) where
   step-shaped e n s = by-case e n (step faces least e n) (becomes faces least e n) s
 
   -- events one after the other keep it
-  pub run-keeps : (es : List Event) (n : Node) → Shaped faces n → Shaped faces (run faces least es n)
+  pub run-keeps : (es : List Event) (n : Node) → Shaped faces n → Shaped faces (run (step faces least) es n)
   unfolding run
   run-keeps [] n s = s
   run-keeps (e ∷ es) n s = run-keeps es (step faces least e n .node) (step-shaped e n s)
 
   -- start from an empty node and take any events: the node has the shape
-  pub run-shaped : (es : List Event) → Shaped faces (reached faces least es)
+  pub run-shaped : (es : List Event) → Shaped faces (reached faces (step faces least) es)
   run-shaped es = run-keeps es (emptyNode faces) (empty-shaped faces)

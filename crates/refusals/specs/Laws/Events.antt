@@ -1,14 +1,17 @@
 -- Tests of events: of a packet by its face and bytes or by what it means, of a command by what it names; and what they tell.
 -- Assumes nothing.
 use Prim.Native.Nat.{ℕ}
+use mathlib.Core.Logic.{_↔_}
 use mathlib.Core.Path.{_≡_, refl}
 use mathlib.Core.Bool.{Bool, true, false, false≢true}
 use mathlib.Core.List.{List}
 use Rattle.answers.specs.declared.Answer.{Answer}
 use Rattle.packets.specs.Meaning.{Ask, Offer, Heard, refused, asks, brings, nacks, heard}
-use Rattle.rules.specs.Node.{What, packet, openFace, closeFace, setRoute, dropRoute, addHop, dropHop}
+use Rattle.rules.specs.Node.{Node, What, packet, openFace, closeFace, setRoute, dropRoute, addHop, dropHop}
 use Rattle.refusals.specs.Laws.Tells.{Tells, not-both, tells-as}
-use Rattle.refusals.specs.Refusals.{Hears, Asks, Brings}
+use Rattle.incoming.specs.Incoming.{Hears}
+use Rattle.incoming.specs.Laws.Incoming.{comes-in, hears-bytes}
+use Rattle.refusals.specs.Refusals.{Asks, Brings}
 
 -- a test that never holds, of one thing
 abbrev pub no₁ : {A : Type 0} → A → Bool
@@ -196,23 +199,34 @@ tells-nacked {p} {P} t h = (told h, λ x. rw (x .2) (t (x .1) .1 (x .3)))
     told (brings d bytes) e = not-both e
     told (nacks reason i) e = (reason, i, refl, t i .0 e)
 
--- what a test of Interests tells of an event
-pub tells-interest : {p : ℕ → Ask → Bool} {P : ℕ → Ask → Type 0} → ((f : ℕ) (i : Ask) → Tells (p f i) (P f i)) → (w : What)
-    → Tells (onPacket (λ f l. onAsk (p f) (heard l)) w) ((f : ℕ) × (i : Ask) × Asks w f i × P f i)
-tells-interest t w =
-    tells-as (tells-packet (λ f l. tells-ask (t f) (heard l)) w)
-    (λ x. (x .0, x .3 .0, (x .3 .1 .0, (x .1, x .2, x .3 .1 .1)), x .3 .2), λ x. (x .0, x .2 .1 .0, x .2 .1 .1, (x .1, (x .2 .0, x .2 .1 .2), x .3)))
+module _ (n : Node) where
+  -- a packet that came in is one that the event's bytes hold
+  tells-hears : (w : What) (f : ℕ) (h : Heard) → ((l : List ℕ) × (w ≡ packet f l) × (heard l ≡ h)) ↔ Hears n w f h
+  tells-hears w f h = (λ x. comes-in n f h w (x .0) (x .1) (x .2), hears-bytes n f h w)
 
--- what a test of Data tells of an event
-pub tells-data : {p : ℕ → Offer → Bool} {P : ℕ → Offer → Type 0} → ((f : ℕ) (d : Offer) → Tells (p f d) (P f d)) → (w : What)
-    → Tells (onPacket (λ f l. onOffer (p f) (heard l)) w) ((f : ℕ) × (d : Offer) × Brings w f d × P f d)
-tells-data t w =
-    tells-as (tells-packet (λ f l. tells-offer (t f) (heard l)) w)
-    (λ x. (x .0, x .3 .0, (x .3 .1 .0, (x .1, x .2, x .3 .1 .1)), x .3 .2), λ x. (x .0, x .2 .1 .0, x .2 .1 .1, (x .1, (x .2 .0, x .2 .1 .2), x .3)))
+  -- what a test of Interests tells of an event
+  pub tells-interest : {p : ℕ → Ask → Bool} {P : ℕ → Ask → Type 0} → ((f : ℕ) (i : Ask) → Tells (p f i) (P f i)) → (w : What)
+      → Tells (onPacket (λ f l. onAsk (p f) (heard l)) w) ((f : ℕ) × (i : Ask) × Asks n w f i × P f i)
+  tells-interest t w =
+      tells-as (tells-packet (λ f l. tells-ask (t f) (heard l)) w) (
+        λ x. (x .0, x .3 .0, (x .3 .1 .0, tells-hears w (x .0) _ .0 (x .1, x .2, x .3 .1 .1)), x .3 .2),
+        λ x. let y = tells-hears w (x .0) _ .1 (x .2 .1) in (x .0, y .0, y .1, (x .1, (x .2 .0, y .2), x .3)),
+      )
 
--- what a test of Nacks tells of an event
-pub tells-nack : {p : ℕ → Ask → Bool} {P : ℕ → Ask → Type 0} → ((f : ℕ) (i : Ask) → Tells (p f i) (P f i)) → (w : What)
-    → Tells (onPacket (λ f l. onNack (p f) (heard l)) w) ((f : ℕ) × (reason : ℕ) × (i : Ask) × Hears w f (nacks reason i) × P f i)
-tells-nack t w =
-    tells-as (tells-packet (λ f l. tells-nacked (t f) (heard l)) w)
-    (λ x. (x .0, x .3 .0, x .3 .1, (x .1, x .2, x .3 .2), x .3 .3), λ x. (x .0, x .3 .0, x .3 .1, (x .1, x .2, x .3 .2, x .4)))
+  -- what a test of Data tells of an event
+  pub tells-data : {p : ℕ → Offer → Bool} {P : ℕ → Offer → Type 0} → ((f : ℕ) (d : Offer) → Tells (p f d) (P f d)) → (w : What)
+      → Tells (onPacket (λ f l. onOffer (p f) (heard l)) w) ((f : ℕ) × (d : Offer) × Brings n w f d × P f d)
+  tells-data t w =
+      tells-as (tells-packet (λ f l. tells-offer (t f) (heard l)) w) (
+        λ x. (x .0, x .3 .0, (x .3 .1 .0, tells-hears w (x .0) _ .0 (x .1, x .2, x .3 .1 .1)), x .3 .2),
+        λ x. let y = tells-hears w (x .0) _ .1 (x .2 .1) in (x .0, y .0, y .1, (x .1, (x .2 .0, y .2), x .3)),
+      )
+
+  -- what a test of Nacks tells of an event
+  pub tells-nack : {p : ℕ → Ask → Bool} {P : ℕ → Ask → Type 0} → ((f : ℕ) (i : Ask) → Tells (p f i) (P f i)) → (w : What)
+      → Tells (onPacket (λ f l. onNack (p f) (heard l)) w) ((f : ℕ) × (reason : ℕ) × (i : Ask) × Hears n w f (nacks reason i) × P f i)
+  tells-nack t w =
+      tells-as (tells-packet (λ f l. tells-nacked (t f) (heard l)) w) (
+        λ x. (x .0, x .3 .0, x .3 .1, tells-hears w (x .0) _ .0 (x .1, x .2, x .3 .2), x .3 .3),
+        λ x. let y = tells-hears w (x .0) _ .1 (x .3) in (x .0, y .0, y .1, (x .1, x .2, y .2, x .4)),
+      )

@@ -120,7 +120,7 @@ module _ (faces least : ℕ) (e : Event) (n : Node) where
       go false p false q = place-distinct c d (omega (arith, ltb-false (place c) (place d) p, ltb-false (place d) (place c) q))
 
   -- a check that decides gives its answer
-  decides-answer : (c : Check) → Decides faces least e n c → step faces least e n .answer ≡ answerOf c
+  pub decides-answer : (c : Check) → Decides faces least e n c → step faces least e n .answer ≡ answerOf c
   decides-answer c x =
       ⊎-elim (λ y. y .2 ∙ ap answerOf (decides-one (y .0) c (y .1) x)) (λ y. absurd (y .0 c (x .applies))) decided
 

@@ -1,4 +1,4 @@
--- What a refusal leaves: the answer's number alone says which packets are sent, what happens to requests, and what the node holds
+-- What a refusal leaves: the check that refuses alone says which packets are sent, what happens to requests, and what the node holds
 -- afterwards.
 -- Assumes nothing.
 use Prim.Native.Nat.{ℕ}
@@ -8,9 +8,11 @@ use mathlib.Core.Bool.{Bool, true, false, _||_, not}
 use mathlib.Core.List.{List, [], append-nil}
 use mathlib.Core.Option.{Option, none, some}
 use lib.ListN.{length}
-use lib.Dec.{ltb, leb}
+use lib.Dec.{ltb, leb, eqb}
 use Rattle.answers.specs.declared.Answer.{Answer}
 use Rattle.answers.specs.Number.{numberOf}
+use Rattle.laws.specs.Pick.{pick}
+use native.Mathlib.Omega.{arith}
 use Rattle.laws.specs.Laws.Pick.{pick-ind, pick-yes, pick-no}
 use Rattle.wire.specs.Verdict.{isMalformed, isUnsupported}
 use Rattle.sizes.specs.Sizes.{mostPacket, mostComponents, mostName}
@@ -25,30 +27,58 @@ use Rattle.records.specs.Route.{Route, routeOf, longest, hopAt, cheapestOf}
 use Rattle.records.specs.Entry.{Entry, matches, withNack, allNacked, sentNonce}
 use Rattle.records.specs.Stored.{Hit, lookup}
 use Rattle.rules.specs.Node.{Node, What, packet, openFace, closeFace, setRoute, dropRoute, addHop, dropHop, Event}
-use Rattle.rules.specs.Outcome.{Outcome, quiet, nackFor}
+use Rattle.rules.specs.Outcome.{Send, Outcome, quiet, nackFor}
 use Rattle.rules.specs.Ageing.{aged, ageing}
-use Rattle.refusals.specs.Refused.{nackReason, sendsFor, refusalSends, refusal}
+use Rattle.incoming.specs.Incoming.{cameIn}
+use Rattle.refusals.specs.Refusals.{Check, Clock, SmallBuffer, BadFace, FaceOpen, PacketSize, Malformed, Unsupported, NameSize, BadSetting, HopLimit, Scope, Loop, NoRoute, NoRoom, Unsolicited, StaleNack, TableFull, answerOf, Decides}
+use Rattle.refusals.specs.Refused.{isEarly, nackReason, sendsFor, refusalSends, refusal}
 use Rattle.rules.specs.Interest.{Arrival, eligible, entryOf, loops, newEntry, opensEntry, noRoom, mayOpen, routed, served, asksAnew, sendsOn, renews, asksAgain, asksEntry, hopIsZero, outOfScope, interestStep}
 use Rattle.rules.specs.Data.{satisfies, dataStep}
 use Rattle.rules.specs.Nack.{sentBack, endsByNack, nackedEntry, nackStep}
 use Rattle.rules.specs.Command.{byPrefix, openStep, closeStep, setRouteStep, onRoute, dropRouteStep, addHopStep, dropHopStep}
 use Rattle.rules.specs.Step.{arrives, whatStep, badFace, afterAgeing, badTime, step}
 use Rattle.refusals.specs.Laws.Reading.{isLong, Heeds, heard-heeds, heard-long}
+use Rattle.refusals.specs.Laws.Exactly.{decides-answer}
 use Rattle.records.specs.Happening.{Happening}
+
+-- ---- what a refusal leaves, by its answer: each check's number tells its check's side of ageing and its Nack
+
+-- the reason of the Nack that an answer sends
+unfoldable reasonFor : Answer → Option ℕ
+unfolding pick
+reasonFor a = pick (eqb (numberOf a) 9) (some 100) (pick (eqb (numberOf a) 10) (some 150) (pick (eqb (numberOf a) 11) (some 50) none))
+
+-- what a refusal by an answer sends
+unfoldable sendsBy : Node → What → Answer → List Send
+sendsBy n (packet f l) a = sendsFor n f (reasonFor a) (heard l)
+sendsBy n What.clock a = []
+sendsBy n (openFace f scope link) a = []
+sendsBy n (closeFace f) a = []
+sendsBy n (setRoute c p) a = []
+sendsBy n (dropRoute p) a = []
+sendsBy n (addHop f cost p) a = []
+sendsBy n (dropHop f p) a = []
+
+-- what it leaves
+unfoldable leftBy : Event → Node → Answer → Outcome
+leftBy e n a =
+    let m = aged (e .time) n in
+    pick (leb (numberOf a) 3) (quiet a n)
+    (record { answer = a; node = m; sends = sendsBy m (e .what) a; happenings = ageing (e .time) n })
 
 -- ---- past ageing
 
 -- a refusal's outcome before the expiries are put in front
 abbrev plain : Node → What → Answer → Outcome
-plain n w a = record { answer = a; node = n; sends = refusalSends n w a; happenings = [] }
+plain n w a = record { answer = a; node = n; sends = sendsBy n w a; happenings = [] }
 
 -- an outcome is 0's, or a refusal's
 abbrev Leaves : Node → What → Outcome → Type 0
 Leaves n w o = (o .answer ≡ Answer.Done) ⊎ ((leb (numberOf (o .answer)) 3 ≡ false) × (o ≡ plain n w (o .answer)))
 
 -- an answer that sends no Nack
-sends-none : (n : Node) (w : What) (a : Answer) → nackReason a ≡ none → refusalSends n w a ≡ []
-unfolding refusalSends sendsFor given
+sends-none : (n : Node) (w : What) (a : Answer) → reasonFor a ≡ none → sendsBy n w a ≡ []
+unfolding sendsBy sendsFor given
 sends-none n (packet f l) a e = rw e (go (heard l))
   where
     go : (h : Heard) → sendsFor n f none h ≡ []
@@ -65,14 +95,14 @@ sends-none n (addHop f cost p) a e = refl
 sends-none n (dropHop f p) a e = refl
 
 -- a refusal that sends nothing
-silent : (n : Node) (w : What) (a : Answer) → leb (numberOf a) 3 ≡ false → refusalSends n w a ≡ [] → Leaves n w (quiet a n)
+silent : (n : Node) (w : What) (a : Answer) → leb (numberOf a) 3 ≡ false → sendsBy n w a ≡ [] → Leaves n w (quiet a n)
 unfolding quiet
 silent n w a h e = inr (h, rw e)
 
 -- a refusal of an Interest, with a Nack of a reason
 nacking : (n : Node) (f : ℕ) (l : List ℕ) (i : Ask) (bytes : List ℕ) (a : Answer) (reason : ℕ)
-    → heard l ≡ asks i bytes → leb (numberOf a) 3 ≡ false → nackReason a ≡ some reason → Leaves n (packet f l) (nackFor a reason n f i)
-unfolding nackFor refusalSends sendsFor given
+    → heard l ≡ asks i bytes → leb (numberOf a) 3 ≡ false → reasonFor a ≡ some reason → Leaves n (packet f l) (nackFor a reason n f i)
+unfolding nackFor sendsBy sendsFor given
 nacking n f l i bytes a reason q h e = inr (h, rw (q, e))
 
 module _ (now : ℕ) (n : Node) (f : ℕ) (l : List ℕ) (i : Ask) (bytes : List ℕ) (q : heard l ≡ asks i bytes) where
@@ -82,12 +112,12 @@ module _ (now : ℕ) (n : Node) (f : ℕ) (l : List ℕ) (i : Ask) (bytes : List
 
   -- 10 for an Interest
   no-route : Leaves n (packet f l) (nackFor Answer.NoRoute 150 n f i)
-  unfolding nackReason
+  unfolding reasonFor
   no-route = nacking n f l i bytes Answer.NoRoute 150 q refl refl
 
   -- an Interest by its longest route
   routed-leaves : (o : Option Route) → Leaves n (packet f l) (routed now n came o)
-  unfolding routed given mayOpen opensEntry nackReason
+  unfolding routed given mayOpen opensEntry reasonFor
   routed-leaves none = no-route
   routed-leaves (some r) = go (cheapestOf (eligible n came (isLocalFace (n .faces) f)) r) refl
     where
@@ -110,7 +140,7 @@ module _ (now : ℕ) (n : Node) (f : ℕ) (l : List ℕ) (i : Ask) (bytes : List
 
   -- an Interest
   interest-leaves : Leaves n (packet f l) (interestStep now n came)
-  unfolding interestStep nackReason
+  unfolding interestStep reasonFor
   interest-leaves =
       let w = packet f l in
       pick-ind (Leaves n w) (hopIsZero (i .hop)) _ _ (λ _. silent n w Answer.HopLimit refl (sends-none n w Answer.HopLimit refl))
@@ -120,7 +150,7 @@ module _ (now : ℕ) (n : Node) (f : ℕ) (l : List ℕ) (i : Ask) (bytes : List
 
 -- a Data
 data-leaves : (now : ℕ) (n : Node) (w : What) (f : ℕ) (d : Offer) (bytes : List ℕ) → Leaves n w (dataStep now n f d bytes)
-unfolding dataStep satisfies nackReason
+unfolding dataStep satisfies reasonFor
 data-leaves now n w f d bytes =
     pick-ind (Leaves n w) (outOfScope n f (d .name)) _ _ (λ _. silent n w Answer.Scope refl (sends-none n w Answer.Scope refl))
     (λ _. pick-ind (Leaves n w) (isEmpty (only (matches (d .name)) (n .pending))) _ _
@@ -128,7 +158,7 @@ data-leaves now n w f d bytes =
 
 -- a Nack
 nack-leaves : (now : ℕ) (n : Node) (w : What) (f reason : ℕ) (i : Ask) → Leaves n w (nackStep now n f reason i)
-unfolding nackStep sentBack given nackedEntry endsByNack quiet nackReason
+unfolding nackStep sentBack given nackedEntry endsByNack quiet reasonFor
 nack-leaves now n w f reason i = go (atPlace (entryOf n i) (n .pending)) refl
   where
     stale : Leaves n w (quiet Answer.StaleNack n)
@@ -147,12 +177,12 @@ nack-leaves now n w f reason i = go (atPlace (entryOf n i) (n .pending)) refl
         (λ _. pick-ind (Leaves n w) (sentNonce f (i .nonce) x) _ _
         (λ _. pick-ind (Leaves n w) (allNacked (withNack f reason x)) _ _ (λ _. inl refl) (λ _. inl refl)) (λ _. stale)) (λ _. stale)))
 
--- a packet that is read to a refusal is refused by 4, 5 or 6, with no Nack
+-- a packet that is read to a leftBy is refused by 4, 5 or 6, with no Nack
 unread-leaves : (n : Node) (f : ℕ) (l : List ℕ) (a : Answer) → heard l ≡ refused a → Leaves n (packet f l) (quiet a n)
-unfolding nackReason
+unfolding reasonFor
 unread-leaves n f l a q = go (ltb mostPacket (length l)) refl
   where
-    by : (b : Answer) → a ≡ b → leb (numberOf b) 3 ≡ false → nackReason b ≡ none → Leaves n (packet f l) (quiet a n)
+    by : (b : Answer) → a ≡ b → leb (numberOf b) 3 ≡ false → reasonFor b ≡ none → Leaves n (packet f l) (quiet a n)
     by b e h r = rw e (silent n (packet f l) b h (sends-none n (packet f l) b r))
 
     judged : Heeds (isLong (nameCame l)) (refused a) → Leaves n (packet f l) (quiet a n)
@@ -174,7 +204,7 @@ arrives-leaves now n f l (nacks reason i) q = nack-leaves now n (packet f l) f r
 
 -- a command by its prefix
 prefix-leaves : (n : Node) (w : What) (p : List ℕ) (o : Outcome) → Leaves n w o → Leaves n w (byPrefix n p o)
-unfolding byPrefix nackReason
+unfolding byPrefix reasonFor
 prefix-leaves n w p o h =
     pick-ind (Leaves n w) (isMalformed (counted p .said)) _ _ (λ _. silent n w Answer.Malformed refl (sends-none n w Answer.Malformed refl))
     (λ _. pick-ind (Leaves n w) (isUnsupported (counted p .said)) _ _
@@ -187,14 +217,14 @@ prefix-leaves n w p o h =
 
 -- a command on a route: 10 sends no Nack
 route-leaves : (n : Node) (w : What) (p : List ℕ) (o : ℕ → Outcome)
-    → refusalSends n w Answer.NoRoute ≡ [] → Leaves n w (o (routeOf p (n .routes))) → Leaves n w (onRoute n p o)
+    → sendsBy n w Answer.NoRoute ≡ [] → Leaves n w (o (routeOf p (n .routes))) → Leaves n w (onRoute n p o)
 unfolding onRoute
 route-leaves n w p o e h =
     pick-ind (Leaves n w) (ltb (routeOf p (n .routes)) (length (n .routes))) _ _ (λ _. h) (λ _. silent n w Answer.NoRoute refl e)
 
 -- an event past ageing
 what-leaves : (faces now : ℕ) (n : Node) (w : What) → Leaves n w (whatStep faces now n w)
-unfolding whatStep openStep closeStep setRouteStep dropRouteStep addHopStep dropHopStep quiet nackReason refusalSends
+unfolding whatStep openStep closeStep setRouteStep dropRouteStep addHopStep dropHopStep quiet reasonFor sendsBy
 what-leaves faces now n (packet f l) = arrives-leaves now n f l (heard l) refl
 what-leaves faces now n What.clock = inl refl
 what-leaves faces now n (openFace f scope link) =
@@ -226,23 +256,23 @@ what-leaves faces now n (dropHop f p) =
 module _ (faces least : ℕ) (e : Event) (n : Node) where
   -- an outcome is 0's, or what the answer says that a refusal leaves
   abbrev Says : Outcome → Type 0
-  Says o = (o .answer ≡ Answer.Done) ⊎ (o ≡ refusal e n (o .answer))
+  Says o = (o .answer ≡ Answer.Done) ⊎ (o ≡ leftBy e n (o .answer))
 
   -- answers 1 to 3
   early : (a : Answer) → leb (numberOf a) 3 ≡ true → Says (quiet a n)
-  unfolding refusal quiet
+  unfolding leftBy quiet
   early a h = inr (sym (pick-yes (leb (numberOf a) 3) _ _ h))
 
   -- every other answer
   late : (o : Outcome) → Leaves (aged (e .time) n) (e .what) o → Says (afterAgeing (ageing (e .time) n) o)
-  unfolding refusal afterAgeing
+  unfolding leftBy afterAgeing
   late o (inl q) = inl q
   late o (inr (h, q)) =
       let m = aged (e .time) n in
       let leaving : List Happening → Outcome = λ hs. record {
         answer = o .answer;
         node = m;
-        sends = refusalSends m (e .what)
+        sends = sendsBy m (e .what)
             (o .answer);
         happenings = hs;
       } in
@@ -258,6 +288,60 @@ module _ (faces least : ℕ) (e : Event) (n : Node) where
       (λ _. pick-ind Says (badFace faces n (e .what)) _ _ (λ _. early Answer.BadFace refl)
       (λ _. late (whatStep faces (e .time) (aged (e .time) n) (e .what)) (what-leaves faces (e .time) (aged (e .time) n) (e .what)))))
 
-  -- what a refusal leaves: the number says it
-  pub refusal-leaves : step faces least e n .answer ≢ Answer.Done → step faces least e n ≡ refusal e n (step faces least e n .answer)
-  refusal-leaves h = ⊎-elim (λ q. absurd (h q)) (λ q. q) says
+  -- by its number
+  by-answer : step faces least e n .answer ≢ Answer.Done → step faces least e n ≡ leftBy e n (step faces least e n .answer)
+  by-answer h = ⊎-elim (λ q. absurd (h q)) (λ q. q) says
+
+-- a check's number tells that its answer is not 0, its side of ageing, and its Nack
+record Number (c : Check) : Type 0 where
+  refuses : answerOf c ≢ Answer.Done
+  side : leb (numberOf (answerOf c)) 3 ≡ isEarly c
+  reason : reasonFor (answerOf c) ≡ nackReason c
+
+-- an answer whose number is not 0 is not 0
+not-done : (a : Answer) → ltb 0 (numberOf a) ≡ true → a ≢ Answer.Done
+not-done a h q = let z : _≡_ {A = ℕ} 0 1 = cc (h, q) in omega arith
+
+-- each check's
+number : (c : Check) → Number c
+unfolding isEarly reasonFor nackReason
+number Clock = record { refuses = not-done (answerOf Clock) refl; side = refl; reason = refl }
+number SmallBuffer = record { refuses = not-done (answerOf SmallBuffer) refl; side = refl; reason = refl }
+number BadFace = record { refuses = not-done (answerOf BadFace) refl; side = refl; reason = refl }
+number FaceOpen = record { refuses = not-done (answerOf FaceOpen) refl; side = refl; reason = refl }
+number PacketSize = record { refuses = not-done (answerOf PacketSize) refl; side = refl; reason = refl }
+number Malformed = record { refuses = not-done (answerOf Malformed) refl; side = refl; reason = refl }
+number Unsupported = record { refuses = not-done (answerOf Unsupported) refl; side = refl; reason = refl }
+number NameSize = record { refuses = not-done (answerOf NameSize) refl; side = refl; reason = refl }
+number BadSetting = record { refuses = not-done (answerOf BadSetting) refl; side = refl; reason = refl }
+number HopLimit = record { refuses = not-done (answerOf HopLimit) refl; side = refl; reason = refl }
+number Scope = record { refuses = not-done (answerOf Scope) refl; side = refl; reason = refl }
+number Loop = record { refuses = not-done (answerOf Loop) refl; side = refl; reason = refl }
+number NoRoute = record { refuses = not-done (answerOf NoRoute) refl; side = refl; reason = refl }
+number NoRoom = record { refuses = not-done (answerOf NoRoom) refl; side = refl; reason = refl }
+number Unsolicited = record { refuses = not-done (answerOf Unsolicited) refl; side = refl; reason = refl }
+number StaleNack = record { refuses = not-done (answerOf StaleNack) refl; side = refl; reason = refl }
+number TableFull = record { refuses = not-done (answerOf TableFull) refl; side = refl; reason = refl }
+
+-- what a check sends is what its answer does
+same-sends : (n : Node) (w : What) (c : Check) → reasonFor (answerOf c) ≡ nackReason c → sendsBy n w (answerOf c) ≡ refusalSends n w c
+unfolding sendsBy refusalSends cameIn given heard
+same-sends n (packet f l) c r = rw r
+same-sends n What.clock c r = refl
+same-sends n (openFace f scope link) c r = refl
+same-sends n (closeFace f) c r = refl
+same-sends n (setRoute k p) c r = refl
+same-sends n (dropRoute p) c r = refl
+same-sends n (addHop f cost p) c r = refl
+same-sends n (dropHop f p) c r = refl
+
+module _ (faces least : ℕ) (e : Event) (n : Node) where
+  -- what a refusal leaves: the check that decides says it
+  pub refusal-leaves : (c : Check) → Decides faces least e n c → step faces least e n ≡ refusal e n c
+  unfolding leftBy refusal
+  refusal-leaves c d =
+      let a : step faces least e n .answer ≡ answerOf c = decides-answer faces least e n c d in
+      let k = number c in
+      let b : step faces least e n ≡ leftBy e n (answerOf c) =
+      by-answer faces least e n (λ q. k .refuses (sym a ∙ q)) ∙ ap (leftBy e n) a in
+      b ∙ rw (k .side, same-sends (aged (e .time) n) (e .what) c (k .reason)) refl

@@ -36,6 +36,7 @@ use Rattle.rules.specs.Interest.{Arrival, spent, eligible, entryOf, entryLoops,
 use Rattle.rules.specs.Step.{badFace, badTime}
 use Rattle.rules.specs.Ageing.{aged}
 use Rattle.refusals.specs.Laws.Tells.{Tells, not-both, tells-or, tells-and, tells-if, tells-as, tells-not, tells-lt, tells-le, tells-eq, tells-flag, tells-bytes, tells-prefix, tells-some, tells-holds, tells-any, tells-no, only-none, tells-first, tells-no-first, tells-held, tells-slots}
+use Rattle.incoming.specs.Laws.Incoming.{comes-in, hears-bytes}
 use Rattle.refusals.specs.Laws.Events.{testOf, Told, ofPacket, ofOpening, ofSetting, ofDropping, ofAdding, ofDropHop, tells-event, no₁, no₂, no₃, never₁, never₂, never₃, onPacket, tells-packet, meansOf, onAsk, tells-ask, tells-interest, onOffer, tells-data, onNack, tells-nack}
 use Rattle.refusals.specs.Laws.Reading.{ifFine, overSize, isLong}
 use Rattle.refusals.specs.Laws.Longest.{longest-is, longest-none}
@@ -55,22 +56,22 @@ tells-link x = go (x .link) refl
 
 module _ (n : Node) (f : ℕ) where
   -- whether it is open
-  tells-open : Tells (isOpen (n .faces) f) (Open n f)
+  pub tells-open : Tells (isOpen (n .faces) f) (Open n f)
   unfolding isOpen
   tells-open = tells-some (slot f (n .faces))
 
   -- whether it is local
-  tells-local : Tells (isLocalFace (n .faces) f) (Local n f)
+  pub tells-local : Tells (isLocalFace (n .faces) f) (Local n f)
   unfolding isLocalFace
   tells-local = tells-holds (λ x. Iff·rfl) (slot f (n .faces))
 
   -- whether it is point-to-point
-  tells-peer : Tells (isPeer (n .faces) f) (PointToPoint n f)
+  pub tells-peer : Tells (isPeer (n .faces) f) (PointToPoint n f)
   unfolding isPeer
   tells-peer = tells-holds (λ x. tells-link x .0) (slot f (n .faces))
 
   -- whether it is ad hoc
-  tells-ad-hoc : Tells (isAdHocFace (n .faces) f) (AdHoc n f)
+  pub tells-ad-hoc : Tells (isAdHocFace (n .faces) f) (AdHoc n f)
   unfolding isAdHocFace
   tells-ad-hoc = tells-holds (λ x. tells-link x .1) (slot f (n .faces))
 
@@ -122,10 +123,12 @@ tells-refused a (brings d bytes) = (not-both, λ q. cc)
 tells-refused a (nacks r i) = (not-both, λ q. cc)
 
 -- the reading of a packet refuses it
-tells-unread : (a : Answer) (w : What) → Tells (onPacket (λ f l. refusedBy a (heard l)) w) (Unread a w)
-tells-unread a w =
-    tells-as (tells-packet (λ f l. tells-refused a (heard l)) w)
-    (λ x. (x .0, (x .1, x .2, x .3)), λ x. (x .0, x .1 .0, x .1 .1, x .1 .2))
+tells-unread : (n : Node) (a : Answer) (w : What) → Tells (onPacket (λ f l. refusedBy a (heard l)) w) (Unread n a w)
+tells-unread n a w =
+    tells-as (tells-packet (λ f l. tells-refused a (heard l)) w) (
+      λ x. (x .0, comes-in n (x .0) _ w (x .1) (x .2) (x .3)),
+      λ x. let y = hears-bytes n (x .0) _ w (x .1) in (x .0, y .0, y .1, y .2),
+    )
 
 -- that bytes break the grammar
 tells-malformed : (v : Verdict) → Tells (isMalformed v) (v ≡ Verdict.Malformed)
@@ -176,19 +179,19 @@ module _ (w : What) where
   tells-long-packet = tells-packet (λ f l. tells-lt mostPacket (length l)) w
 
   -- 5
-  tells-broken : Tells brokenBytes (BrokenBytes w)
+  tells-broken : (n : Node) → Tells brokenBytes (BrokenBytes n w)
   unfolding brokenBytes
-  tells-broken =
+  tells-broken n =
       tells-or
-      (tells-unread Answer.Malformed w)
+      (tells-unread n Answer.Malformed w)
       (tells-holds (λ p. tells-malformed (counted p .said)) (prefixIn w))
 
   -- 6
-  tells-marked : Tells markedBytes (MarkedBytes w)
+  tells-marked : (n : Node) → Tells markedBytes (MarkedBytes n w)
   unfolding markedBytes
-  tells-marked =
+  tells-marked n =
       tells-or
-      (tells-unread Answer.Unsupported w)
+      (tells-unread n Answer.Unsupported w)
       (tells-holds (λ p. tells-unsupported (counted p .said)) (prefixIn w))
 
   -- 4, a name
@@ -279,9 +282,9 @@ tells-hop none = (not-both, λ q. cc)
 tells-hop (some k) = (λ e. ap some (tells-eq k 0 .0 e), λ q. tells-eq k 0 .1 (cc))
 
 -- what it tells
-tells-hops : (w : What) → Tells (noHopsLeft w) (NoHopsLeft w)
+tells-hops : (n : Node) (w : What) → Tells (noHopsLeft w) (NoHopsLeft n w)
 unfolding noHopsLeft
-tells-hops w = tells-interest (λ f i. tells-hop (i .hop)) w
+tells-hops n w = tells-interest n (λ f i. tells-hop (i .hop)) w
 
 -- 8: whether an Interest, Data or Nack is out of scope
 unfoldable pub outOfReach : Node → What → Bool
@@ -295,14 +298,14 @@ tells-scope n w =
     (tells-packet
     (λ f l. tells-holds
     (λ name. tells-and Iff·rfl (tells-not (tells-local n f))) (nameIn (heard l))) w) (
-      λ x. (x .0, heard (x .1), (x .1, x .2, refl), (x .3 .0, x .3 .1, x .3 .2 .0), x .3 .2 .1),
-      λ x. (x .0, x .2 .0, x .2 .1, (x .3 .0, rw (x .2 .2) (x .3 .1), (x .3 .2, x .4))),
+      λ x. (x .0, heard (x .1), comes-in n (x .0) _ w (x .1) (x .2) refl, (x .3 .0, x .3 .1, x .3 .2 .0), x .3 .2 .1),
+      λ x. let y = hears-bytes n (x .0) _ w (x .2) in (x .0, y .0, y .1, (x .3 .0, rw (y .2) (x .3 .1), (x .3 .2, x .4))),
     )
 
 -- ---- entries
 
 -- "An entry is known by name and both flags."
-tells-known : (i : Ask) (x : Entry) → Tells (isKnown (i .name) (i .canBePrefix) (i .mustBeFresh) x) (Known i x)
+pub tells-known : (i : Ask) (x : Entry) → Tells (isKnown (i .name) (i .canBePrefix) (i .mustBeFresh) x) (Known i x)
 unfolding isKnown
 tells-known i x =
     tells-as
@@ -330,7 +333,7 @@ unfolding ownNonce
 tells-own f k x = tells-holds (λ r. tells-eq (r .nonce) k) (slot f (x .requests))
 
 -- a face's own out-record
-tells-sent : (f k : ℕ) (x : Entry) → Tells (sentNonce f k x) (OutRecord x f k)
+pub tells-sent : (f k : ℕ) (x : Entry) → Tells (sentNonce f k x) (OutRecord x f k)
 unfolding sentNonce
 tells-sent f k x = tells-holds (λ s. tells-eq (s .nonce) k) (slot f (x .sent))
 
@@ -380,12 +383,12 @@ module _ (now : ℕ) (n : Node) where
   -- what it tells
   tells-loops : (w : What) → Tells (isLoop w) (Loops now n w)
   unfolding isLoop
-  tells-loops w = tells-interest tells-loop w
+  tells-loops w = tells-interest n tells-loop w
 
 -- ---- the store
 
 -- "A lookup may take ..": a Data that serves an Interest
-tells-serves : (now : ℕ) (i : Ask) (d : Stored) → Tells (serves now (i .name) (i .canBePrefix) (i .mustBeFresh) d) (Serves now i d)
+pub tells-serves : (now : ℕ) (i : Ask) (d : Stored) → Tells (serves now (i .name) (i .canBePrefix) (i .mustBeFresh) d) (Serves now i d)
 unfolding serves
 tells-serves now i d =
     tells-and
@@ -427,7 +430,7 @@ module _ (now : ℕ) (n : Node) (i : Ask) where
 -- ---- routes
 
 -- "HopLimit is present and is 0 after lowering"
-tells-spent : (o : Option ℕ) → Tells (spent o) ((k : ℕ) × (o ≡ some k) × (k - 1 ≡ 0))
+pub tells-spent : (o : Option ℕ) → Tells (spent o) ((k : ℕ) × (o ≡ some k) × (k - 1 ≡ 0))
 unfolding spent holds
 tells-spent none = (not-both, λ x. cc)
 tells-spent (some k) = (λ e. (k, refl, tells-eq (k - 1) 0 .0 e), λ x. tells-eq (k - 1) 0 .1 (let q : x .0 ≡ k = cc in rw q at (x .2)))
@@ -541,13 +544,13 @@ module _ (now : ℕ) (n : Node) where
   tells-crowded : (w : What) → Tells (crowded w) (Crowded now n w)
   unfolding crowded
   tells-crowded w =
-      tells-as (tells-interest (λ f i. tells-crowd i) w)
+      tells-as (tells-interest n (λ f i. tells-crowd i) w)
       (λ x. (x .0, x .1, x .2, x .3 .0, x .3 .1), λ x. (x .0, x .1, x .2, (x .3, x .4)))
 
 -- ---- Data and Nacks
 
 -- "Data matches an entry of equal name, or with CanBePrefix and a name that is its prefix."
-tells-matches : (d : Offer) (x : Entry) → Tells (matches (d .name) x) (Matches d x)
+pub tells-matches : (d : Offer) (x : Entry) → Tells (matches (d .name) x) (Matches d x)
 unfolding matches
 tells-matches d x =
     tells-or (tells-bytes (x .name) (d .name)) (tells-and Iff·rfl (tells-prefix (x .name) (d .name)))
@@ -564,7 +567,7 @@ unasked n w = onPacket (λ f l. onOffer (isUnasked n) (heard l)) w
 tells-unasked : (n : Node) (w : What) → Tells (unasked n w) (Unasked n w)
 unfolding unasked isUnasked
 tells-unasked n w =
-    tells-data (λ f d. rw (only-none (matches (d .name)) (n .pending)) (tells-no (tells-matches d) (n .pending))) w
+    tells-data n (λ f d. rw (only-none (matches (d .name)) (n .pending)) (tells-no (tells-matches d) (n .pending))) w
 
 -- 13: whether a Nack is stale
 unfoldable pub isStale : Node → ℕ → Ask → Bool
@@ -577,7 +580,7 @@ stale n w = onPacket (λ f l. onNack (isStale n f) (heard l)) w
 -- what it tells
 tells-stale : (n : Node) (w : What) → Tells (stale n w) (Stale n w)
 unfolding stale isStale
-tells-stale n w = tells-nack told w
+tells-stale n w = tells-nack n told w
   where
     told : (f : ℕ) (i : Ask) → Tells (isStale n f i) ((¬ PointToPoint n f) ⊎ ((x : Entry) → EntryOf n i x → ¬ OutRecord x f (i .nonce)))
     told f i =
@@ -672,7 +675,7 @@ module _ (now : ℕ) (n : Node) (w : What) where
           (NoPrefix n) (λ f cost q. NoPrefix n q) (NoHop n)
 
       told : Cases w → Unrouted now n w ⊎ Absent n w
-      told (ofPacket f l e x) = inl (f, x .0, (x .1 .0, (l, e, x .1 .1)), x .2 .0, x .2 .1)
+      told (ofPacket f l e x) = inl (f, x .0, (x .1 .0, comes-in n f _ w l e (x .1 .1)), x .2 .0, x .2 .1)
       told (ofOpening f scope link e x) = absurd x
       told (ofSetting c q e x) = absurd x
       told (ofDropping q e x) = inr (inl (q, e, x))
@@ -680,7 +683,8 @@ module _ (now : ℕ) (n : Node) (w : What) where
       told (ofDropHop f q e x) = inr (inr (inr (f, q, e, x)))
 
       holding : Unrouted now n w ⊎ Absent n w → Cases w
-      holding (inl x) = ofPacket (x .0) (x .2 .1 .0) (x .2 .1 .1) (x .1, (x .2 .0, x .2 .1 .2), (x .3, x .4))
+      holding (inl x) =
+          let y = hears-bytes n (x .0) _ w (x .2 .1) in ofPacket (x .0) (y .0) (y .1) (x .1, (x .2 .0, y .2), (x .3, x .4))
       holding (inr (inl x)) = ofDropping (x .0) (x .1) (x .2)
       holding (inr (inr (inl x))) = ofAdding (x .0) (x .1) (x .2) (x .3) (x .4)
       holding (inr (inr (inr x))) = ofDropHop (x .0) (x .1) (x .2) (x .3)
@@ -739,11 +743,11 @@ module _ (faces least : ℕ) (e : Event) (n : Node) where
   tells BadFace = tells-face faces n (e .what)
   tells FaceOpen = tells-opens (aged (e .time) n) (e .what)
   tells PacketSize = tells-long-packet (e .what)
-  tells Malformed = tells-broken (e .what)
-  tells Unsupported = tells-marked (e .what)
+  tells Malformed = tells-broken (e .what) (aged (e .time) n)
+  tells Unsupported = tells-marked (e .what) (aged (e .time) n)
   tells NameSize = tells-long-name (e .what)
   tells BadSetting = tells-setting (e .what)
-  tells HopLimit = tells-hops (e .what)
+  tells HopLimit = tells-hops (aged (e .time) n) (e .what)
   tells Scope = tells-scope (aged (e .time) n) (e .what)
   tells Loop = tells-loops (e .time) (aged (e .time) n) (e .what)
   tells NoRoute = tells-no-route (e .time) (aged (e .time) n) (e .what)

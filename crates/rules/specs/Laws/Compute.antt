@@ -1,7 +1,7 @@
 -- The rules, opened for computation: the answer, the sends and the happenings of each event of a run.
 -- Assumes nothing.
 use Prim.Native.Nat.{ℕ}
-use mathlib.Core.List.{List}
+use mathlib.Core.List.{List, [], _∷_}
 use Rattle.laws.specs.Pick.{pick}
 use Rattle.laws.specs.Lists.{indexOf, onAt, without}
 use Rattle.wire.specs.Number.{number}
@@ -29,7 +29,12 @@ use Rattle.rules.specs.Interest.{spent, eligible, requestOf, sentOf, ent
 use Rattle.rules.specs.Nack.{peersOf, nackOf, settled, endsByNack, nackedEntry, sentBack, nackStep}
 use Rattle.rules.specs.Node.{emptyNode, faceIn, opensFace, printOf, Node, Event}
 use Rattle.rules.specs.Outcome.{quiet, routeClass, nameClass, nacksTo, nackFor, Outcome}
-use Rattle.rules.specs.Step.{arrives, whatStep, badFace, afterAgeing, badTime, step, run, outcomes, history}
+use Rattle.rules.specs.Step.{arrives, whatStep, badFace, afterAgeing, badTime, step, Book, run, history}
+
+-- the outcomes of events, one after the other, by a rule book
+unfoldable pub outcomes : Book → List Event → Node → List Outcome
+outcomes b [] n = []
+outcomes b (e ∷ es) n = b e n ∷ outcomes b es (b e n .node)
 
 -- the outcomes of a run, as they compute
 unfoldable pub computed : ℕ → ℕ → List Event → Node → List Outcome
@@ -45,4 +50,4 @@ unfolding pick indexOf onAt without number element components counted sameBytes 
     opensEntry noRoom mayOpen routed served asksAnew fromLocalFace nextHop resends sendsOn renews asksAgain asksEntry hopIsZero outOfScope
     interestStep markNacked withNack allNacked peersOf nackOf settled endsByNack nackedEntry sentNonce sentBack nackStep emptyNode faceIn
     opensFace printOf happens quiet routeClass nameClass nacksTo nackFor arrives whatStep badFace afterAgeing badTime step run outcomes history
-computed faces least es n = outcomes faces least es n
+computed faces least es n = outcomes (step faces least) es n

@@ -1,0 +1,11 @@
+pub mod Meets
+pub mod Books
+pub mod Looking
+pub mod RequestsRefused
+pub mod ClassesRefused
+pub mod FacesRefused
+pub mod NacksRefused
+pub mod DataRefused
+pub mod NotesRefused
+pub mod Refused
+pub mod Occur

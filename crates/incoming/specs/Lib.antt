@@ -1,0 +1,2 @@
+pub mod Incoming
+pub mod Laws
