@@ -42,8 +42,11 @@ pub record Accounts (faces least : ℕ) (m : Moment) : Type 0 where
   pub taken : TakenIn m
   -- past the checks before ageing, no request that is over stands
   pub live : ((c : Check) → isEarly c ≡ true → ¬ Applies faces least (m .event) (m .before) c) → Live m
+  -- and the last time is the event's
+  pub timed : ((c : Check) → isEarly c ≡ true → ¬ Applies faces least (m .event) (m .before) c) → m .outcome .node .time ≡ m .event .time
   -- what a Data, a Nack and the closing of a face must end, ends, and what they need not, stays
-  pub satisfied : (f : ℕ) (d : Offer) (bytes : List ℕ) → Arrives m f (brings d bytes) → m .outcome .answer ≡ Answer.Done → Satisfied m f d
+  pub satisfied : (f : ℕ) (d : Offer) (bytes : List ℕ) → Arrives m f (brings d bytes) → m .outcome .answer ≡ Answer.Done
+      → Satisfied m f d bytes
   pub nacked : (f cause : ℕ) (i : Ask) → Arrives m f (nacks cause i) → m .outcome .answer ≡ Answer.Done → Nacked m f cause i
   pub closed : (f : ℕ) → m .event .what ≡ closeFace f → m .outcome .answer ≡ Answer.Done → Closed m f
   -- each packet that leaves may leave; at most one leaves on a face

@@ -33,9 +33,10 @@ Gone es x g = All (λ y. SameName x y → slot g (y .requests) ≡ none) es
 abbrev pub Ended : Moment → Fate → Entry → ℕ → Request → Type 0
 Ended m y x g r = In (happens y (now m) x (record { face = g; what = r })) (m .outcome .happenings)
 
--- after a Data from face f: no entry that it ends stands; each of its requests ended, as answered or self-met; every other entry is as it
--- was
-pub record Satisfied (m : Moment) (f : ℕ) (d : Offer) : Type 0 where
+-- after a Data from face f: it is stored, now; no entry that it ends stands; each of its requests ended, as answered or self-met; every
+-- other entry is as it was
+pub record Satisfied (m : Moment) (f : ℕ) (d : Offer) (bytes : List ℕ) : Type 0 where
+  pub stored : In (record { name = d .name; bytes = bytes; time = now m; freshness = d .freshness }) (after m .store)
   pub gone : All (λ x. EndedBy f d x → ⊥) (after m .pending)
   pub ended : (x : Entry) → In x (met m .pending) → EndedBy f d x → (g : ℕ) (r : Request) → slot g (x .requests) ≡ some r
       → Ended m answered x g r ⊎ Ended m selfMet x g r

@@ -15,7 +15,7 @@ use Rattle.sizes.specs.Sizes.{mostTime, mostEntries, mostStored}
 use Rattle.names.specs.Name.{sameBytes, underLocalhost}
 use Rattle.packets.specs.Meaning.{Ask, Offer, Heard, refused, asks, brings, nacks}
 use Rattle.records.specs.Class.{Class, alarm, monitoring, bulk, noClass, classOf, classNumber}
-use Rattle.records.specs.Slots.{slot, setSlot, noSlots, isEmpty, given, atPlace, Held, held, only, each}
+use Rattle.records.specs.Slots.{slot, setSlot, emptied, noSlots, isEmpty, given, atPlace, Held, held, anyOf, only, each}
 use Rattle.records.specs.Face.{Face, multiAccess, pointToPoint, isOpen, isLocalFace}
 use Rattle.records.specs.Route.{Route, routeOf, withClass, longest, cheapestOf}
 use Rattle.records.specs.Entry.{Request, Entry, matches, withRequests, withSent, asking, notAsking, sending, earliestOf, withNack}
@@ -68,6 +68,10 @@ onPending g o =
 abbrev onRoutes : (List Route → List Route) → Outcome → Outcome
 onRoutes g o =
     record { answer = o .answer; node = withRoutes (o .node) (g (o .node .routes)); sends = o .sends; happenings = o .happenings }
+
+-- with another last time
+abbrev onTime : (ℕ → ℕ) → Outcome → Outcome
+onTime g o = record { answer = o .answer; node = withTime (o .node) (g (o .node .time)); sends = o .sends; happenings = o .happenings }
 
 -- with other faces
 abbrev onFaces : (List (Option Face) → List (Option Face)) → Outcome → Outcome
@@ -431,6 +435,11 @@ storesOther e n =
     onData (λ o f d bytes. onStore (map (λ (x : Stored). pick (sameBytes (d .name) (x .name))
     (record { name = []; bytes = x .bytes; time = x .time; freshness = x .freshness }) x)) o) e n
 
+-- a Data that ends requests is not stored
+unfoldable pub storesNothing : Book
+unfolding onData
+storesNothing e n = onData (λ o f d bytes. onStore (λ _. n .store) o) e n
+
 -- a send of Data on the next face
 unfoldable pub besides : Send → Kind → Send
 besides s interest = s
@@ -463,6 +472,19 @@ recordsUnsent e n =
     onInterest (λ o a. or o (answers 0 o && isEmpty (o .sends)) (given o (λ (x : Entry). given o (λ (h : ℕ).
     onPending (onAt (entryOf (met e n) (a .ask)) (sending h (sentOf (e .time) a))) o) (earliestOf (λ _. true) x))
     (entryAt (met e n) (a .ask)))) e n
+
+-- a further Interest that is sent on forgets the out-records of the other faces
+unfoldable pub forgetsSent : Book
+unfolding onInterest
+forgetsSent e n =
+    onInterest (λ o a. or o (answers 0 o && not (isEmpty (o .sends))) (given o (λ (x : Entry).
+    onPending (onAt (entryOf (met e n) (a .ask)) (λ (y : Entry).
+    withSent (emptied (λ f. not (anyOf (λ (s : Send). eqb (s .face) f) (o .sends))) (y .sent)) y)) o) (entryAt (met e n) (a .ask)))) e n
+
+-- a clock reading that is accepted does not move the last time
+unfoldable pub stopsClock : Book
+unfolding pick ticks
+stopsClock e n = or (paperStep e n) (answers 0 (paperStep e n) && ticks (e .what)) (onTime (λ _. n .time) (paperStep e n))
 
 -- an event that the clock refuses ages the tables all the same
 unfoldable pub agesRefused : Book

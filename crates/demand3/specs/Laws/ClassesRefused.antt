@@ -16,7 +16,7 @@ use Rattle.rules.specs.Laws.Compute.{computed}
 use Rattle.incoming.specs.Laws.Incoming.{bytes-hears}
 use Rattle.history.specs.Moments.{lastOf}
 use Rattle.history.specs.Classes.{classAt, givenBy}
-use Rattle.history.specs.Asked.{isFor, classedBy}
+use Rattle.history.specs.Asked.{isFor, isPending, classedBy}
 use Rattle.history.specs.Laws.Runs.{at, a, asksA, asksFor, ready, asked, openings}
 use Rattle.demand3.specs.Demand3.{Demand3}
 use Rattle.demand3.specs.Laws.Books.{lowersMonitoring, lowersAll, guessesClass, keepsWord, refusesAlarm, refusesBulk, roomByPlaces}
@@ -37,7 +37,7 @@ lowersMonitoring-refused d =
 
 -- `asked`, `cls`: the entry's class is not that of the longest route for its name
 pub lowersAll-refused : Demand3 mostFaces leastBuffer lowersAll packed → ⊥
-unfolding computed lowersAll lastOf classedBy isFor
+unfolding computed lowersAll lastOf classedBy isFor isPending
 lowersAll-refused d =
     let k : _≡_ {A = ℕ} 1 3 = ap classNumber (Option·some-injective _ _ (all-at 0 (d .asked asked) .cls)) in
     omega arith

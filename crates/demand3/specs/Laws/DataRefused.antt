@@ -24,7 +24,7 @@ use Rattle.history.specs.Sends.{Rising, next}
 use Rattle.history.specs.ReadBack.{BroughtBy}
 use Rattle.history.specs.Laws.Runs.{at, a, asksA, asksUnderA, bringsA, bringsAX, ready, asked}
 use Rattle.demand3.specs.Demand3.{Demand3}
-use Rattle.demand3.specs.Laws.Books.{answersLowest, forgetsPrefix, meetsAdHoc, sendsTwice, storesOther, servesElsewhere}
+use Rattle.demand3.specs.Laws.Books.{answersLowest, forgetsPrefix, meetsAdHoc, sendsTwice, storesOther, storesNothing, servesElsewhere}
 use Rattle.demand3.specs.Laws.Looking.{no, last-event, all-at, some-found, some-none, ask-one, one-sort}
 
 -- `satisfied`, `gone`: an entry that the Data ends stands
@@ -88,6 +88,13 @@ brought-found {d} s =
 pub storesOther-refused : Demand3 mostFaces leastBuffer storesOther packed → ⊥
 unfolding computed storesOther moments cameIn heardIn bringsName
 storesOther-refused d = no (brought-found (all-at 0 (d .brought (asked ++ (at 101 (packet 2 bringsA) ∷ [])))))
+
+-- `satisfied`, `stored`: nothing is stored
+pub storesNothing-refused : Demand3 mostFaces leastBuffer storesNothing packed → ⊥
+unfolding computed storesNothing
+storesNothing-refused d =
+    let m = last-event d asked (at 101 (packet 2 bringsA)) in
+    some-none (m .satisfied 2 _ _ (bytes-hears _ 2 bringsA) refl .stored) refl
 
 -- `leaving`: the Interest that the store serves did not come on that face
 pub servesElsewhere-refused : Demand3 mostFaces leastBuffer servesElsewhere packed → ⊥

@@ -144,6 +144,11 @@ refused-same {m} k q =
 pub live-after : {m : Moment} → Accounts mostFaces leastBuffer m → paperStep (m .event) (m .before) .answer ≡ Answer.Done → Live m
 live-after {m} k q = k .live (λ c _. none-applies (m .event) (m .before) q c)
 
+-- the last time is the event's
+pub timed-after : {m : Moment} → Accounts mostFaces leastBuffer m → paperStep (m .event) (m .before) .answer ≡ Answer.Done
+    → after m .time ≡ now m
+timed-after {m} k q = k .timed (λ c _. none-applies (m .event) (m .before) q c)
+
 -- and the answer is 0
 pub done-same : {m : Moment} → Accounts mostFaces leastBuffer m → paperStep (m .event) (m .before) .answer ≡ Answer.Done
     → m .outcome .answer ≡ Answer.Done

@@ -3,7 +3,6 @@
 -- Assumes nothing.
 use Prim.Native.Nat.{ℕ, _*_, _≤_}
 use mathlib.Core.Path.{refl}
-use mathlib.Core.List.{List}
 use mathlib.Core.Logic.{inr}
 use native.Mathlib.Omega.{arith}
 use Rattle.answers.specs.declared.Answer.{Answer}
@@ -25,7 +24,7 @@ use Rattle.history.specs.Laws.TakenIn.{step-taken}
 use Rattle.history.specs.Laws.Satisfied.{step-satisfied}
 use Rattle.history.specs.Laws.Closed.{step-closed}
 use Rattle.history.specs.Laws.Nacked.{step-nacked}
-use Rattle.history.specs.Laws.Aged.{step-live}
+use Rattle.history.specs.Laws.Aged.{step-live, step-timed}
 use Rattle.history.specs.Laws.Leaving.{step-leaving}
 use Rattle.history.specs.Laws.Rising.{sends-rise}
 use Rattle.history.specs.Laws.RoomOwed.{room-owed}
@@ -44,6 +43,7 @@ accounts faces least e n s = record {
   honest = step-honest faces least e n s;
   taken = step-taken faces least e n s;
   live = step-live faces least e n;
+  timed = step-timed faces least e n;
   satisfied = step-satisfied faces least e n;
   nacked = step-nacked faces least e n s;
   closed = step-closed faces least e n;

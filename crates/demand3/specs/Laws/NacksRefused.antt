@@ -20,7 +20,7 @@ use Rattle.records.specs.Face.{linkNumber}
 use Rattle.records.specs.Slots.{slot, holds, isSome}
 use Rattle.records.specs.Entry.{Sent, Entry}
 use Rattle.records.specs.Happening.{Happening}
-use Rattle.rules.specs.Node.{Event, packet, openFace, addHop}
+use Rattle.rules.specs.Node.{packet, openFace}
 use Rattle.rules.specs.Packed.{packed}
 use Rattle.rules.specs.Laws.Compute.{computed}
 use Rattle.incoming.specs.Laws.Incoming.{bytes-hears, hears-one}
@@ -28,7 +28,7 @@ use Rattle.history.specs.Moments.{Moment, met, Arrives}
 use Rattle.history.specs.Sends.{NackedFor, loop, noRoute, noRoom}
 use Rattle.history.specs.Ends.{Nacking}
 use Rattle.history.specs.MustEnd.{SameName, Noted}
-use Rattle.history.specs.Laws.Runs.{at, a, asksA, nacksA, ready, asked}
+use Rattle.history.specs.Laws.Runs.{at, a, asksA, nacksA, asked, askedTwice}
 use Rattle.demand3.specs.Demand3.{Demand3}
 use Rattle.demand3.specs.Laws.Books.{ignoresNack, endsEarly, nacksEarly, nacksAnyLink, nacksOther, loopEnds}
 use Rattle.demand3.specs.Laws.Looking.{no, last-event, all-at, some-none, in-one, one-link, one-sort}
@@ -67,11 +67,6 @@ nacked-last {m} w f {cause} {i} y x e g k s q =
     let c : w .from ≡ f = hears-one (met m) (m .event .what) (w .from) f _ _ (w .came) y .0 in
     let z : x ≡ w .stood .entry = in-one (w .stood .pending) e in
     w .last g s (λ r. eqb-false g f k (r ∙ c)) (ap (λ (x : Entry). slot g (x .sent)) (sym z) ∙ q)
-
--- faces 1 to 3, and an Interest of face 1 for /a that left on face 2, and again on face 3
-abbrev askedTwice : List Event
-askedTwice =
-    ready 1 a ++ (at 0 (openFace 3 1 0) ∷ at 0 (addHop 3 20 a) ∷ at 100 (packet 1 (asksA 4)) ∷ at 300 (packet 1 (asksA 5)) ∷ [])
 
 -- `honest`: the out-record of face 3 was not Nacked
 pub endsEarly-refused : Demand3 mostFaces leastBuffer endsEarly packed → ⊥

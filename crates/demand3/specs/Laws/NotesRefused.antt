@@ -22,12 +22,12 @@ use Rattle.history.specs.Lists.{howMany}
 use Rattle.history.specs.Turns.{turns}
 use Rattle.history.specs.Moments.{lastOf, moments}
 use Rattle.history.specs.Sends.{filledTo}
-use Rattle.history.specs.Asked.{isFor, sendsOn, sentBy}
+use Rattle.history.specs.Asked.{isFor, sendsOn, isPending, sentBy, closesFace, outBy}
 use Rattle.history.specs.Laws.Every.{not-none}
-use Rattle.history.specs.Laws.Runs.{at, a, asksA, asked}
+use Rattle.history.specs.Laws.Runs.{at, a, asksA, asked, askedTwice}
 use Rattle.demand3.specs.Demand3.{Demand3}
-use Rattle.demand3.specs.Laws.Books.{notesRenewal, hidesExpiries, recordsUnsent, agesRefused, zeroing}
-use Rattle.demand3.specs.Laws.Looking.{last-event, all-at, refused-same}
+use Rattle.demand3.specs.Laws.Books.{notesRenewal, hidesExpiries, recordsUnsent, forgetsSent, stopsClock, agesRefused, zeroing}
+use Rattle.demand3.specs.Laws.Looking.{last-event, all-at, refused-same, timed-after}
 
 -- `turns`: the request opens twice
 pub notesRenewal-refused : Demand3 mostFaces leastBuffer notesRenewal packed → ⊥
@@ -43,10 +43,23 @@ hidesExpiries-refused d =
 
 -- `asked`, `outs`: the out-record is not that of the Interest that was sent
 pub recordsUnsent-refused : Demand3 mostFaces leastBuffer recordsUnsent packed → ⊥
-unfolding computed recordsUnsent lastOf sentBy isFor sendsOn kindNumber heardIn cameIn
+unfolding computed recordsUnsent lastOf outBy closesFace sentBy isFor sendsOn isPending kindNumber heardIn cameIn
 recordsUnsent-refused d =
-    let s = Option·some-injective _ _ (all-at 0 (d .asked (asked ++ (at 150 (packet 1 (asksA 5)) ∷ []))) .outs 2 _ refl) in
-    let k : _≡_ {A = ℕ} 100 150 = ap (λ (x : Sent). x .time) s in
+    let s = Option·some-injective _ _ (all-at 0 (d .asked (asked ++ (at 150 (packet 1 (asksA 5)) ∷ []))) .outs 2) in
+    let k : _≡_ {A = ℕ} 150 100 = ap (λ (x : Sent). x .time) s in
+    omega arith
+
+-- `asked`, `outs`: an out-record is lost
+pub forgetsSent-refused : Demand3 mostFaces leastBuffer forgetsSent packed → ⊥
+unfolding computed forgetsSent lastOf outBy closesFace sentBy isFor sendsOn isPending kindNumber heardIn cameIn
+forgetsSent-refused d = not-none (all-at 0 (d .asked askedTwice) .outs 2)
+
+-- `timed`: the last time is not that of the clock reading
+pub stopsClock-refused : Demand3 mostFaces leastBuffer stopsClock packed → ⊥
+unfolding computed stopsClock
+stopsClock-refused d =
+    let m = last-event d asked (at 200 clock) in
+    let k : _≡_ {A = ℕ} 100 200 = timed-after m refl in
     omega arith
 
 -- `refuses`: what the clock refuses changes nothing

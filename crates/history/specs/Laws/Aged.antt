@@ -1,5 +1,5 @@
 -- Past the checks before ageing, no request that is over stands (`step-live`): each that stands is live, or is the one that an Interest
--- made in this event.
+-- made in this event. And the node's last time is the event's (`step-timed`).
 -- Assumes nothing.
 use Prim.Native.Nat.{ℕ, _<_}
 use mathlib.Core.Path.{_≡_, refl, sym, _∙_}
@@ -159,6 +159,28 @@ module _ (faces : ℕ) (e : Event) (n : Node) where
   past-live w o came (case.addsHop f cost p a b) = met-lives
   past-live w o came (case.dropsHop f p a) = met-lives
 
+-- whatever an event comes to past the first three checks, it leaves the last time
+past-timed : (faces now : ℕ) (n : Node) (w : What) (o : Outcome) → Past faces now n w o → o .node .time ≡ n .time
+unfolding quiet nackFor served opensEntry asksAgain renews sendsOn satisfies endsByNack settled closeStep
+past-timed faces now n w o (case.unread f a k) = refl
+past-timed faces now n w o (case.refused f a d) = refl
+past-timed faces now n w o (case.turnedAway v a d) = refl
+past-timed faces now n w o case.ticked = refl
+past-timed faces now n w o (case.nackedBack f q a reason k) = refl
+past-timed faces now n w o (case.servedFrom f q h found absent) = refl
+past-timed faces now n w o (case.opened f q r h a b c d) = refl
+past-timed faces now n w o (case.joined f q x a) = refl
+past-timed faces now n w o (case.satisfied f q a) = refl
+past-timed faces now n w o (case.marked f q x a k z) = refl
+past-timed faces now n w o (case.nackedOn f q x a k z) = refl
+past-timed faces now n w o (case.opensFace f scope link a) = refl
+past-timed faces now n w o (case.closesFace f) = refl
+past-timed faces now n w o (case.setsClass c p a b) = refl
+past-timed faces now n w o (case.addsRoute c p h a b d) = refl
+past-timed faces now n w o (case.dropsRoute p a) = refl
+past-timed faces now n w o (case.addsHop f cost p a b) = refl
+past-timed faces now n w o (case.dropsHop f p a) = refl
+
 module _ (faces least : ℕ) (e : Event) (n : Node) (late : (c : Check) → isEarly c ≡ true → ¬ Applies faces least e n c) where
   -- the test of a check before ageing fails
   early-fails : (c : Check) → isEarly c ≡ true → test faces least e n c ≡ false
@@ -175,3 +197,8 @@ module _ (faces least : ℕ) (e : Event) (n : Node) (late : (c : Check) → isEa
   pub step-live : Live (moment (step faces least) e n)
   unfolding afterAgeing
   step-live = rw passes (past-live faces e n (e .what) _ refl (past faces (e .time) (aged (e .time) n) (e .what)))
+
+  -- and the last time is the event's
+  pub step-timed : step faces least e n .node .time ≡ e .time
+  unfolding afterAgeing aged
+  step-timed = rw passes (past-timed faces (e .time) (aged (e .time) n) (e .what) _ (past faces (e .time) (aged (e .time) n) (e .what)))

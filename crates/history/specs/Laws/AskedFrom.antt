@@ -1,20 +1,20 @@
 -- Each entry that stands after an event came to stand in one of the ways of `AskedWays`, whatever the event comes to (`past-from`).
 -- Assumes nothing.
 use Prim.Native.Nat.{ℕ}
-use mathlib.Core.Path.{_≡_, refl, sym, _∙_, ap}
+use mathlib.Core.Path.{_≡_, refl, sym, _∙_}
 use mathlib.Core.Bool.{Bool, true, false, _&&_, _||_}
 use mathlib.Core.List.{List, [], _∷_, _++_}
 use mathlib.Core.Option.{Option, none, some}
 use lib.ListN.{length}
 use lib.Dec.{eqb}
-use borrow.Author.Tests.{eqb-true}
 use Rattle.answers.specs.declared.Answer.{Answer}
 use Rattle.laws.specs.Pick.{pick}
-use Rattle.laws.specs.Laws.Pick.{pick-ind, pick-eq}
+use Rattle.laws.specs.Laws.Pick.{pick-ind}
 use Rattle.laws.specs.Lists.{without}
 use Rattle.packets.specs.Meaning.{Heard}
 use Rattle.records.specs.Class.{Class}
-use Rattle.records.specs.Slots.{slot, setSlot, given, anyOf, atPlace}
+use Rattle.records.specs.Slots.{slot, given, anyOf, atPlace}
+use Rattle.records.specs.Face.{isOpen}
 use Rattle.records.specs.Route.{Route, longest}
 use Rattle.records.specs.Entry.{Request, Sent, Entry, isKnown, withRequests, withSent, asking, ending, sending, isIdle, markNacked, withNack}
 use Rattle.records.specs.Ageing.{staying, becoming}
@@ -34,16 +34,18 @@ use Rattle.incoming.specs.Laws.Incoming.{hears-in}
 use Rattle.history.specs.Lists.{All, In, Apart}
 use Rattle.history.specs.Moments.{Moment, isDone}
 use Rattle.history.specs.Sends.{NackedFor, loop, noRoute, noRoom}
-use Rattle.history.specs.Shape.{OtherEntry}
+use Rattle.history.specs.Shape.{OtherEntry, Shaped}
 use Rattle.history.specs.TakenIn.{requestAt}
-use Rattle.history.specs.Asked.{wantOf, sendsOn}
-use Rattle.history.specs.Laws.Every.{all-mono, all-own, all-only, all-map, all-snoc, all-without, all-and}
+use Rattle.history.specs.Asked.{wantOf, sendsOn, isPending, closesFace}
+use Rattle.history.specs.Laws.Every.{all-mono, all-own, all-only, all-map, all-snoc, all-without, all-and, all-in}
 use Rattle.history.specs.Laws.Apart.{none-found}
-use Rattle.history.specs.Laws.Holding.{emptied-some}
+use Rattle.history.specs.Laws.Holding.{emptied-some, length-noSlots}
+use Rattle.history.specs.Laws.Hops.{cheapest-may, resends-may}
 use Rattle.history.specs.Laws.Known.{entry-in, entry-none, entry-known, withRequest, sentOn, withoutPeer}
 use Rattle.history.specs.Laws.Becomes.{asked, denied, arrival, HoldsInterest, HoldsNack, Past}
 use Rattle.history.specs.Laws.Becomes as case
-use Rattle.history.specs.Laws.AskedWays.{concerns, Silent, refuses, noPacket, another, Within, From, stood, opened, joined, marked, is-for, none-for, others-for, any-none, all-put, slot-set, within-self, within-closed}
+use Rattle.history.specs.Laws.ShapeKept.{may-open}
+use Rattle.history.specs.Laws.AskedWays.{concerns, Silent, refuses, noPacket, another, Within, From, stood, opened, joined, marked, shut, is-for, none-for, others-for, any-none, all-put, slot-set, slot-open, slot-changed, within-self, by-closing}
 
 -- the sends of one Interest: it leaves on its own face
 sends-one : (f h : ℕ) (a : Arrival) (c : Class) → sendsOn f (forwards a c h ∷ []) ≡ eqb h f
@@ -79,11 +81,11 @@ module _ (faces time room : ℕ) (n : Node) (hs : List Happening) where
   -- an Interest that opens an entry
   opened-from : (w : What) (g h : ℕ) (q : HoldsInterest (aged time n) w g) (r : Route)
       → atPlace (entryOf (aged time n) (asked q)) (aged time n .pending) ≡ none
-      → longest (asked q .name) (aged time n .routes) ≡ some r
+      → longest (asked q .name) (aged time n .routes) ≡ some r → isOpen (aged time n .faces) h ≡ true
       → All (From (momentOf w (opensEntry time (aged time n) (arrival g q) (r .cls) h)))
       (aged time n .pending ++ (newEntry time (aged time n) (arrival g q) (r .cls) h ∷ []))
-  unfolding opensEntry newEntry entryOf afterAgeing requestOf sentOf concerns
-  opened-from w g h q r a b =
+  unfolding opensEntry newEntry entryOf afterAgeing requestOf sentOf concerns isPending
+  opened-from w g h q r a b c =
       let es = aged time n .pending in
       let i = asked q in
       all-snoc
@@ -96,7 +98,9 @@ module _ (faces time room : ℕ) (n : Node) (hs : List Happening) where
         fits = is-for i (newEntry time (aged time n) (arrival g q) (r .cls) h) refl refl refl;
         done = refl;
         requests = λ f x e. slot-set g f _ _ x e;
-        outs = λ f x e. rw (sends-one f h (arrival g q) (r .cls)) (slot-set h f _ _ x e);
+        outs = λ f.
+            rw (sends-one f h (arrival g q) (r .cls))
+            (slot-open (aged time n .faces) h f _ _ c (length-noSlots Sent (length (aged time n .faces))));
       }) r
       (any-none _ (none-found (isKnown (i .name) (i .canBePrefix) (i .mustBeFresh)) es (entry-none _ es a)))
       b refl)
@@ -107,8 +111,8 @@ module _ (faces time room : ℕ) (n : Node) (hs : List Happening) where
     join-from : (o : Outcome) (y : Entry) → isDone (o .answer) ≡ true → wantOf y ≡ wantOf x → y .cls ≡ x .cls
         → ((f : ℕ) (r : Request) → slot f (y .requests) ≡ some r
         → pick (eqb g f) (some (requestAt time (asked q))) (slot f (x .requests)) ≡ some r)
-        → ((f : ℕ) (s : Sent) → slot f (y .sent) ≡ some s
-        → pick (sendsOn f (o .sends)) (some (record { nonce = asked q .nonce; time = time; nacked = none })) (slot f (x .sent)) ≡ some s)
+        → ((f : ℕ) → slot f (y .sent)
+        ≡ pick (sendsOn f (o .sends)) (some (record { nonce = asked q .nonce; time = time; nacked = none })) (slot f (x .sent)))
         → From (momentOf w o) y
     unfolding afterAgeing
     join-from o y d v c rs ss =
@@ -125,31 +129,34 @@ module _ (faces time room : ℕ) (n : Node) (hs : List Happening) where
         })
 
     -- the entry that an Interest joins, sent on or not
-    entry-from : (y : Option ℕ) (gs : List Happening)
+    entry-from : length (x .sent) ≡ length (aged time n .faces) → (y : Option ℕ)
+        → ((h : ℕ) → y ≡ some h → isOpen (aged time n .faces) h ≡ true) → (gs : List Happening)
         → From (momentOf w (rule.sendsOn time (aged time n) (arrival g q) (entryOf (aged time n) (asked q))
         (withRequest time (arrival g q) x) y gs)) (sentOn time (arrival g q) y (withRequest time (arrival g q) x))
     unfolding rule.sendsOn requestOf sentOf given asking sending withRequests withSent sendsOn anyOf pick
-    entry-from none gs = join-from _ _ refl refl refl (λ f r e. slot-set g f _ (x .requests) r e) (λ f s e. e)
-    entry-from (some h) gs =
+    entry-from l none k gs = join-from _ _ refl refl refl (λ f r e. slot-set g f _ (x .requests) r e) (λ f. refl)
+    entry-from l (some h) k gs =
         join-from _ _ refl refl refl (λ f r e. slot-set g f _ (x .requests) r e)
-        (λ f s e. rw (sends-one f h (arrival g q) (x .cls)) (slot-set h f _ (x .sent) s e))
+        (λ f. rw (sends-one f h (arrival g q) (x .cls)) (slot-open (aged time n .faces) h f _ (x .sent) (k h refl) l))
 
     -- all entries, where an Interest joins one
-    joined-from : Apart OtherEntry (aged time n .pending)
+    joined-from : Shaped faces (aged time n)
         → All (From (momentOf w (asksAgain time (aged time n) (arrival g q) (entryOf (aged time n) (asked q)) x)))
         (asksAgain time (aged time n) (arrival g q) (entryOf (aged time n) (asked q)) x .node .pending)
     unfolding asksAgain renews rule.sendsOn entryOf afterAgeing concerns
     joined-from s =
         let es = aged time n .pending in
+        let y = withRequest time (arrival g q) x in
         all-put _ _ es
-        (entry-from (resends time (aged time n) (arrival g q) (withRequest time (arrival g q) x)) _)
-        (all-other w _ g _ (q .comes) (all-and (all-without _ (all-own es)) (others-for (asked q) es s)))
+        (entry-from (all-in (s .pending .each) (entry-in _ es x a) .sent ∙ sym (s .size)) (resends time (aged time n) (arrival g q) y)
+        (λ h e. may-open (aged time n) (arrival g q) _ h (resends-may time (aged time n) (arrival g q) y h e)) _)
+        (all-other w _ g _ (q .comes) (all-and (all-without _ (all-own es)) (others-for (asked q) es (s .pending .apart))))
 
   module _ (w : What) (g : ℕ) (q : HoldsNack (aged time n) w g) (x : Entry)
       (a : atPlace (entryOf (aged time n) (denied q)) (aged time n .pending) ≡ some x) where
     -- an entry whose out-record a Nack marks, and which keeps its requests or some of them
     nack-from : (o : Outcome) (y : Entry) → isDone (o .answer) ≡ true → Within y (withNack g (q .reason) x) → From (momentOf w o) y
-    unfolding afterAgeing withNack withSent
+    unfolding afterAgeing withNack withSent markNacked
     nack-from o y d v =
         let k = entry-known (aged time n) (denied q) x a in
         marked x (entry-in _ (aged time n .pending) x a) (record {
@@ -162,15 +169,8 @@ module _ (faces time room : ℕ) (n : Node) (hs : List Happening) where
           want = v .want;
           cls = v .cls;
           requests = v .requests;
-          outs = λ f s e. marks f s (v .outs f s e);
+          outs = λ f. v .outs f ∙ slot-changed (markNacked (q .reason)) refl g f (x .sent);
         })
-      where
-        marks : (f : ℕ) (s : Sent) → slot f (setSlot g (markNacked (q .reason) (slot g (x .sent))) (x .sent)) ≡ some s
-            → pick (eqb g f) (markNacked (q .reason) (slot f (x .sent))) (slot f (x .sent)) ≡ some s
-        marks f s e =
-            let r = slot-set g f (markNacked (q .reason) (slot g (x .sent))) (x .sent) s e in
-            pick-eq (eqb g f) (markNacked (q .reason) (slot f (x .sent))) (slot f (x .sent)) _ _
-            (λ z. ap (λ i. markNacked (q .reason) (slot i (x .sent))) (sym (eqb-true g f z))) (λ z. refl) ∙ r
 
     -- the entries that the Nack is not for
     nack-others : (o : Outcome) → Apart OtherEntry (aged time n .pending)
@@ -194,32 +194,35 @@ module _ (faces time room : ℕ) (n : Node) (hs : List Happening) where
           want = refl;
           cls = refl;
           requests = λ f r e. emptied-some _ f _ r e;
-          outs = λ f r e. e;
+          outs = λ f. refl;
         })) (nack-others _ s))
 
   -- whatever an event comes to past the first three checks
-  pub past-from : Apart OtherEntry (aged time n .pending) → (w : What) (o : Outcome) → Past faces time (aged time n) w o
+  pub past-from : Shaped faces (aged time n) → (w : What) (o : Outcome) → Past faces time (aged time n) w o
       → All (From (momentOf w o)) (o .node .pending)
-  unfolding quiet nackFor served satisfies closeStep staying opensEntry heardIn cameIn given afterAgeing concerns entryOf
+  unfolding quiet nackFor served satisfies closeStep staying opensEntry heardIn cameIn given closesFace afterAgeing concerns
+      entryOf
   past-from s w o (case.unread f a j) = all-stood w _ (λ y. another f _ (hears-in (aged time n) w f _ j) refl)
   past-from s w o (case.refused f a d) = all-stood w _ (λ y. refuses d)
   past-from s w o (case.turnedAway v a d) = all-stood w _ (λ y. refuses d)
-  past-from s w o case.ticked = all-stood w _ (λ y. noPacket refl)
+  past-from s w o case.ticked = all-stood w _ (λ y. noPacket refl (λ _. refl))
   past-from s w o (case.nackedBack f q a reason j) = all-stood w _ (λ y. refuses (nacked-not a reason j))
   past-from s w o (case.servedFrom f q h found absent) =
       all-other w _ f _ (q .comes) (all-and (all-own (aged time n .pending)) (none-for (asked q) (aged time n .pending) absent))
-  past-from s w o (case.opened f q r h a b c d) = opened-from w f h q r a b
+  past-from s w o (case.opened f q r h a b c d) =
+      opened-from w f h q r a b
+      (may-open (aged time n) (arrival f q) _ h (cheapest-may (aged time n) (arrival f q) _ r h c))
   past-from s w o (case.joined f q x a) = joined-from w f q x a s
   past-from s w o (case.satisfied f q a) = all-only _ (all-stood w _ (λ y. another f _ (hears-in (aged time n) w f _ (q .comes)) refl))
   past-from s w o (case.marked f q x a j z) =
-      all-put _ _ (aged time n .pending) (nack-from w f q x a _ _ refl (within-self _)) (nack-others w f q x a _ s)
-  past-from s w o (case.nackedOn f q x a j z) = ended-from w f q x a s
-  past-from s w o (case.opensFace f scope link a) = all-stood w _ (λ y. noPacket refl)
+      all-put _ _ (aged time n .pending) (nack-from w f q x a _ _ refl (within-self _)) (nack-others w f q x a _ (s .pending .apart))
+  past-from s w o (case.nackedOn f q x a j z) = ended-from w f q x a (s .pending .apart)
+  past-from s w o (case.opensFace f scope link a) = all-stood w _ (λ y. noPacket refl (λ _. refl))
   past-from s w o (case.closesFace f) =
       all-only _ (all-map (withoutFace f)
-      (all-mono (λ y i. stood y i (within-closed f y) (noPacket refl)) (all-own (aged time n .pending))))
-  past-from s w o (case.setsClass c p a b) = all-stood w _ (λ y. noPacket refl)
-  past-from s w o (case.addsRoute c p h a b d) = all-stood w _ (λ y. noPacket refl)
-  past-from s w o (case.dropsRoute p a) = all-stood w _ (λ y. noPacket refl)
-  past-from s w o (case.addsHop f cost p a b) = all-stood w _ (λ y. noPacket refl)
-  past-from s w o (case.dropsHop f p a) = all-stood w _ (λ y. noPacket refl)
+      (all-mono (λ y i. shut y i (by-closing _ f y refl refl)) (all-own (aged time n .pending))))
+  past-from s w o (case.setsClass c p a b) = all-stood w _ (λ y. noPacket refl (λ _. refl))
+  past-from s w o (case.addsRoute c p h a b d) = all-stood w _ (λ y. noPacket refl (λ _. refl))
+  past-from s w o (case.dropsRoute p a) = all-stood w _ (λ y. noPacket refl (λ _. refl))
+  past-from s w o (case.addsHop f cost p a b) = all-stood w _ (λ y. noPacket refl (λ _. refl))
+  past-from s w o (case.dropsHop f p a) = all-stood w _ (λ y. noPacket refl (λ _. refl))

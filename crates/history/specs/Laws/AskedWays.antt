@@ -1,13 +1,15 @@
 -- The ways in which a pending entry comes to stand after an event, and for which of them an Interest is: it stood before with the same
--- records or more, and the event made nothing of it; an Interest for it opened it or joined it; or a Nack for it was noted.
+-- out-records and the same requests or more, and the event made nothing of it; an Interest for it opened it or joined it; a Nack for it
+-- was noted; or a face was closed.
 -- Assumes nothing.
-use Prim.Native.Nat.{ℕ, zero, suc}
+use Prim.Native.Nat.{ℕ, zero, suc, _≤_}
 use mathlib.Core.Path.{_≡_, refl, sym, _∙_}
 use mathlib.Core.Bool.{Bool, true, false, Bool·beq}
 use mathlib.Core.List.{List, [], _∷_}
 use mathlib.Core.Option.{Option, none, some}
-use lib.ListN.{getD, set}
+use lib.ListN.{length, getD, set}
 use lib.Dec.{eqb}
+use native.Mathlib.Omega.{arith}
 use borrow.Author.Tests.{eqb-true, eqb-false}
 use Rattle.laws.specs.Pick.{pick}
 use Rattle.laws.specs.Laws.Pick.{pick-ind}
@@ -15,20 +17,23 @@ use Rattle.laws.specs.Lists.{onAt, without, indexOf}
 use Rattle.names.specs.Name.{sameBytes}
 use Rattle.names.specs.Laws.Same.{same-refl, same-equal, same-not}
 use Rattle.packets.specs.Meaning.{Ask, Heard, refused, asks, brings, nacks}
-use Rattle.records.specs.Slots.{noSlots, slot, setSlot, Held, anyOf, atPlace}
-use Rattle.records.specs.Laws.Slot.{slot-set-other, set-slot-keeps}
+use Rattle.records.specs.Slots.{noSlots, slot, setSlot, given, Held, anyOf, atPlace}
+use Rattle.records.specs.Laws.Slot.{slot-set-same, slot-set-other, set-slot-keeps}
+use Rattle.records.specs.Face.{Face, isOpen}
 use Rattle.records.specs.Route.{Route, longest}
 use Rattle.records.specs.Entry.{Request, Sent, Entry, isKnown, withRequests, withSent, notAsking, notSent, ifLive, agedEntry, markNacked}
 use Rattle.records.specs.Closing.{withoutFace}
-use Rattle.incoming.specs.Incoming.{heardIn}
+use Rattle.rules.specs.Node.{Node, What, packet, clock, openFace, closeFace, setRoute, dropRoute, addHop, dropHop}
+use Rattle.incoming.specs.Incoming.{cameIn, heardIn}
 use Rattle.history.specs.Lists.{All, nothing, both, In, Apart}
 use Rattle.history.specs.Moments.{Moment, now, met, isDone}
 use Rattle.history.specs.Shape.{OtherEntry}
 use Rattle.history.specs.TakenIn.{requestAt}
-use Rattle.history.specs.Asked.{Want, wantOf, isFor, sendsOn}
+use Rattle.history.specs.Asked.{Want, wantOf, isFor, sendsOn, isPending, closesFace}
 use Rattle.history.specs.Laws.Every.{not-none, all-mono}
 use Rattle.history.specs.Laws.Apart.{none-found, others-fail}
 use Rattle.history.specs.Laws.Known.{differs, entry-none, known-is, known-same}
+use Rattle.history.specs.Laws.Holding.{has-some, slot-low, slot-within}
 use Rattle.history.specs.Laws.Tables.{slot-live}
 
 -- ---- the ways
@@ -44,21 +49,21 @@ concerns k (nacks reason i) = isFor k i
 concerns k (refused a) = false
 concerns k (brings d bytes) = false
 
--- an event makes nothing of an entry: it is refused, or brings no packet, or one that is not for it
+-- an event makes nothing of an entry: it is refused, or brings no packet and closes no face, or brings a packet that is not for it
 pub data Silent (m : Moment) (k : Want) : Type 0 where
   refuses : isDone (m .outcome .answer) ≡ false → Silent m k
-  noPacket : came m ≡ none → Silent m k
+  noPacket : came m ≡ none → ((f : ℕ) → closesFace f (m .event .what) ≡ false) → Silent m k
   another : (g : ℕ) (h : Heard) → came m ≡ some (record { face = g; what = h }) → concerns k h ≡ false → Silent m k
 
--- an entry of the same name, flags and class as another, with its records or fewer
+-- an entry of the same name, flags, class and out-records as another, with its requests or fewer
 pub record Within (y x : Entry) : Type 0 where
   pub want : wantOf y ≡ wantOf x
   pub cls : y .cls ≡ x .cls
   pub requests : (f : ℕ) (r : Request) → slot f (y .requests) ≡ some r → slot f (x .requests) ≡ some r
-  pub outs : (f : ℕ) (s : Sent) → slot f (y .sent) ≡ some s → slot f (x .sent) ≡ some s
+  pub outs : (f : ℕ) → slot f (y .sent) ≡ slot f (x .sent)
 
--- an Interest for an entry is accepted: its face has the new request, the face where it leaves the new out-record, and all others have
--- what they had, of requests rs and out-records ss
+-- an Interest for an entry is accepted: each request is the new one, on its face, or one of rs; the face where it leaves has the new
+-- out-record, and each other face has what it has in ss
 pub record ByInterest (m : Moment) (y : Entry) (rs : List (Option Request)) (ss : List (Option Sent)) : Type 0 where
   pub face : ℕ
   pub ask : Ask
@@ -68,8 +73,8 @@ pub record ByInterest (m : Moment) (y : Entry) (rs : List (Option Request)) (ss 
   pub done : isDone (m .outcome .answer) ≡ true
   pub requests : (f : ℕ) (r : Request) → slot f (y .requests) ≡ some r
       → pick (eqb face f) (some (requestAt (now m) ask)) (slot f rs) ≡ some r
-  pub outs : (f : ℕ) (s : Sent) → slot f (y .sent) ≡ some s
-      → pick (sendsOn f (m .outcome .sends)) (some (record { nonce = ask .nonce; time = now m; nacked = none })) (slot f ss) ≡ some s
+  pub outs : (f : ℕ) → slot f (y .sent)
+      ≡ pick (sendsOn f (m .outcome .sends)) (some (record { nonce = ask .nonce; time = now m; nacked = none })) (slot f ss)
 
 -- a Nack for the entry x is accepted: its face's out-record is marked, all others are as they were, and requests may have ended
 pub record ByNack (m : Moment) (y x : Entry) : Type 0 where
@@ -82,8 +87,18 @@ pub record ByNack (m : Moment) (y x : Entry) : Type 0 where
   pub want : wantOf y ≡ wantOf x
   pub cls : y .cls ≡ x .cls
   pub requests : (f : ℕ) (r : Request) → slot f (y .requests) ≡ some r → slot f (x .requests) ≡ some r
-  pub outs : (f : ℕ) (s : Sent) → slot f (y .sent) ≡ some s
-      → pick (eqb face f) (markNacked reason (slot f (x .sent))) (slot f (x .sent)) ≡ some s
+  pub outs : (f : ℕ) → slot f (y .sent) ≡ pick (eqb face f) (markNacked reason (slot f (x .sent))) (slot f (x .sent))
+
+-- a face is closed: of the entry x its out-record is gone, all others are as they were, and a request may have ended
+pub record ByClosing (m : Moment) (y x : Entry) : Type 0 where
+  pub face : ℕ
+  pub comes : came m ≡ none
+  pub closes : (f : ℕ) → closesFace f (m .event .what) ≡ eqb face f
+  pub done : isDone (m .outcome .answer) ≡ true
+  pub want : wantOf y ≡ wantOf x
+  pub cls : y .cls ≡ x .cls
+  pub requests : (f : ℕ) (r : Request) → slot f (y .requests) ≡ some r → slot f (x .requests) ≡ some r
+  pub outs : (f : ℕ) → slot f (y .sent) ≡ pick (eqb face f) none (slot f (x .sent))
 
 -- where an entry comes from that stands after an event
 pub data From (m : Moment) (y : Entry) : Type 0 where
@@ -91,13 +106,27 @@ pub data From (m : Moment) (y : Entry) : Type 0 where
   stood : (x : Entry) → In x (met m .pending) → Within y x → Silent m (wantOf y) → From m y
   -- no entry was known so, and an Interest opened it by the longest route
   opened : (n : ℕ) (q : ByInterest m y (noSlots n) (noSlots n)) (r : Route)
-      → anyOf (isKnown (y .name) (y .canBePrefix) (y .mustBeFresh)) (met m .pending) ≡ false
+      → isPending (wantOf y) m ≡ false
       → longest (q .ask .name) (met m .routes) ≡ some r → r .cls ≡ y .cls → From m y
   -- it stood, and an Interest joined it
   joined : (x : Entry) → In x (met m .pending) → wantOf y ≡ wantOf x → y .cls ≡ x .cls → ByInterest m y (x .requests) (x .sent)
       → From m y
   -- it stood, and a Nack was noted
   marked : (x : Entry) → In x (met m .pending) → ByNack m y x → From m y
+  -- it stood, and a face was closed
+  shut : (x : Entry) → In x (met m .pending) → ByClosing m y x → From m y
+
+-- an event that brings a packet closes no face
+pub packet-closes : (f : ℕ) (n : Node) (w : What) (h : Held Heard) → heardIn n w ≡ some h → closesFace f w ≡ false
+unfolding closesFace heardIn cameIn given
+packet-closes f n (packet g l) h e = refl
+packet-closes f n clock h e = refl
+packet-closes f n (openFace g scope link) h e = refl
+packet-closes f n (closeFace g) h e = not-none e
+packet-closes f n (setRoute c p) h e = refl
+packet-closes f n (dropRoute p) h e = refl
+packet-closes f n (addHop g cost p) h e = refl
+packet-closes f n (dropHop g p) h e = refl
 
 -- ---- what an Interest is for
 
@@ -191,11 +220,42 @@ module _ {A : Type 0} where
   slot-left : (g f : ℕ) (l : List (Option A)) (a : A) → slot f (setSlot g none l) ≡ some a → slot f l ≡ some a
   slot-left g f l a e = set-slot-keeps (λ (y : Option A). y ≡ some a → slot f l ≡ some a) g f none l (λ q. not-none q) (λ q. q) e
 
+  -- a slot after that of an open face was set is what was set, or as it was
+  pub slot-open : (fs : List (Option Face)) (g f : ℕ) (x : Option A) (l : List (Option A)) → isOpen fs g ≡ true → length l ≡ length fs
+      → slot f (setSlot g x l) ≡ pick (eqb g f) x (slot f l)
+  unfolding isOpen
+  slot-open fs g f x l o e =
+      let k = has-some (slot g fs) o in
+      let high : g ≤ length fs = slot-within g fs (k .0) (k .1) in
+      pick-ind (λ (y : Option A). slot f (setSlot g x l) ≡ y) (eqb g f) x (slot f l)
+      (λ q. rw (← eqb-true g f q) (slot-set-same g x l (slot-low g fs (k .0) (k .1)) (omega (arith, e))))
+      (λ q. slot-set-other g f x l (λ z. eqb-false g f q (sym z)))
+
+  module _ (h : Option A → Option A) (n : h none ≡ none) where
+    -- a place that was changed by what leaves an empty one empty is changed so
+    place-changed : (i : ℕ) (l : List (Option A)) → getD (set l i (h (getD l i none))) i none ≡ h (getD l i none)
+    place-changed i [] = sym n
+    place-changed zero (y ∷ l) = refl
+    place-changed (suc i) (y ∷ l) = place-changed i l
+
+    -- so with a face
+    own-changed : (g : ℕ) (l : List (Option A)) → slot g (setSlot g (h (slot g l)) l) ≡ h (slot g l)
+    unfolding slot setSlot
+    own-changed zero l = sym n
+    own-changed (suc i) l = place-changed i l
+
+    -- where a slot was changed so, any other is as it was
+    pub slot-changed : (g f : ℕ) (l : List (Option A)) → slot f (setSlot g (h (slot g l)) l) ≡ pick (eqb g f) (h (slot f l)) (slot f l)
+    slot-changed g f l =
+        pick-ind (λ (y : Option A). slot f (setSlot g (h (slot g l)) l) ≡ y) (eqb g f) (h (slot f l)) (slot f l)
+        (λ q. rw (← eqb-true g f q) (own-changed g l))
+        (λ q. slot-set-other g f (h (slot g l)) l (λ z. eqb-false g f q (sym z)))
+
 -- ---- entries
 
 -- an entry is within itself
 pub within-self : (x : Entry) → Within x x
-within-self x = record { want = refl; cls = refl; requests = λ f r e. e; outs = λ f s e. e }
+within-self x = record { want = refl; cls = refl; requests = λ f r e. e; outs = λ f. refl }
 
 -- a request that lives after ageing stood
 live-stood : (now : ℕ) (x : Option Request) (r : Request) → ifLive now x ≡ some r → x ≡ some r
@@ -211,15 +271,20 @@ within-aged now x = record {
   want = refl;
   cls = refl;
   requests = λ f r e. live-stood now (slot f (x .requests)) r (sym (slot-live now f (x .requests)) ∙ e);
-  outs = λ f s e. e;
+  outs = λ f. refl;
 }
 
--- an entry without a face's records is within what it was
-pub within-closed : (g : ℕ) (x : Entry) → Within (withoutFace g x) x
-unfolding notAsking notSent withRequests withSent
-within-closed g x = record {
+-- an entry without a face's records, where that face is closed
+pub by-closing : (m : Moment) (g : ℕ) (x : Entry) → m .event .what ≡ closeFace g → isDone (m .outcome .answer) ≡ true
+    → ByClosing m (withoutFace g x) x
+unfolding notAsking notSent withRequests withSent heardIn cameIn given closesFace
+by-closing m g x e d = record {
+  face = g;
+  comes = rw e;
+  closes = λ f. rw e;
+  done = d;
   want = refl;
   cls = refl;
-  requests = λ f r e. slot-left g f (x .requests) r e;
-  outs = λ f s e. slot-left g f (x .sent) s e;
+  requests = λ f r k. slot-left g f (x .requests) r k;
+  outs = λ f. slot-changed (λ _. none) refl g f (x .sent);
 }

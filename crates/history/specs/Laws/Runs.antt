@@ -60,6 +60,11 @@ ready c p = at 0 (openFace 1 1 0) ∷ at 0 (openFace 2 1 0) ∷ at 0 (setRoute c
 abbrev pub asked : List Event
 asked = ready 1 a ++ (at 100 (packet 1 (asksA 4)) ∷ [])
 
+-- faces 1 to 3, and an Interest of face 1 for /a that left on face 2, and again on face 3
+abbrev pub askedTwice : List Event
+askedTwice =
+    ready 1 a ++ (at 0 (openFace 3 1 0) ∷ at 0 (addHop 3 20 a) ∷ at 100 (packet 1 (asksA 4)) ∷ at 300 (packet 1 (asksA 5)) ∷ [])
+
 -- Interests on face 1 for k names, the last for that of 0
 unfoldable pub openings : ℕ → List Event
 openings zero = []

@@ -69,7 +69,7 @@ aged-shaped faces now n s = record {
 }
 
 -- an eligible hop is open
-may-open : (n : Node) (a : Arrival) (l : Bool) (f : ℕ) → MayTake n a l f → isOpen (n .faces) f ≡ true
+pub may-open : (n : Node) (a : Arrival) (l : Bool) (f : ℕ) → MayTake n a l f → isOpen (n .faces) f ≡ true
 unfolding eligible
 may-open n a l f h = names.both (isOpen (n .faces) f) _ (names.both _ _ (h .fit) .0) .0
 
