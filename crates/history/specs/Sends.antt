@@ -41,10 +41,6 @@ sentTo f ss = length (only (λ (s : Send). eqb (s .face) f) ss)
 abbrev pub Before : ℕ → Placed → Type 0
 Before room p = p .from + p .len ≤ room
 
--- of a Nack: "At worst it has 290 bytes."
-abbrev pub mostNack : ℕ
-mostNack = 290
-
 -- where the last of what was written ends
 unfoldable pub filledTo : List Placed → ℕ
 filledTo [] = 0

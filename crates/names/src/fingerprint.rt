@@ -3,6 +3,9 @@ ghost use mathlib.Core.Path.{_≡_};
 ghost use Prim.Native.Nat.{_*_, _%_, _^_};
 ghost use Rattle.names.specs.Fingerprint.{stepped, fnv, fingerprint};
 
+// "start at 14695981039346656037"
+pub const FNV_START: u64 = 14695981039346656037;
+
 // a times b modulo 2^64, from halves of 32 bits.
 pub fn wrapping_mul(a: u64, b: u64) -> u64
     ensures { λ r. ⌜ r ≡ (a * b) % 2 ^ 64 ⌝ }

@@ -8,6 +8,7 @@ pub use component::count_components;
 pub use component::first_is;
 pub use component::under_localhop;
 pub use component::under_localhost;
+pub use fingerprint::FNV_START;
 pub use fingerprint::fingerprint_from;
 pub use fingerprint::fnv_from;
 pub use fingerprint::wrapping_mul;

@@ -24,6 +24,9 @@ pub const COMPONENTS: usize = 16;
 // ".. and 255 bytes (the Name's value)."
 pub const NAME: usize = 255;
 
+// "Times are milliseconds up to 2^53."
+pub const MOST_TIME: u64 = 9007199254740992;
+
 // "An InterestLifetime above 60,000 counts as 60,000"
 pub const MOST_LIFETIME: u64 = 60000;
 
@@ -32,3 +35,6 @@ pub const USUAL_LIFETIME: u64 = 4000;
 
 // "A FreshnessPeriod above 86,400,000 counts as that, absent as 0."
 pub const MOST_FRESHNESS: u64 = 86400000;
+
+// "output buffer under 8,192"
+pub const LEAST_BUFFER: usize = 8192;

@@ -1,4 +1,5 @@
 pub mod Written
+pub mod Most
 pub mod Back
 pub mod Places
 pub mod Laws

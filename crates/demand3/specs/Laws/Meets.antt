@@ -13,7 +13,7 @@ use Rattle.rules.specs.Step.{step, paperStep}
 use Rattle.refusals.specs.Laws.Exactly.{exactly}
 use Rattle.refusals.specs.Laws.Leaves.{refusal-leaves}
 use Rattle.history.specs.Moments.{moment}
-use Rattle.history.specs.Sends.{mostNack}
+use Rattle.writing.specs.Most.{mostNack}
 use Rattle.history.specs.Shape.{Shaped}
 use Rattle.history.specs.Laws.ShapeKept.{run-shaped}
 use Rattle.history.specs.Laws.Moments.{all-lived}

@@ -17,7 +17,7 @@ use Rattle.records.specs.Laws.Each.{only-length, held-length}
 use Rattle.records.specs.Face.{isPeer}
 use Rattle.records.specs.Entry.{Request, Entry, withSent, withNack}
 use Rattle.sizes.specs.Sizes.{mostFaces, mostPacket, mostName, leastBuffer}
-use Rattle.history.specs.Sends.{mostNack}
+use Rattle.writing.specs.Most.{mostNack}
 use Rattle.history.specs.Moments.{paperRun}
 use Rattle.rules.specs.Node.{Node, What, Event}
 use Rattle.rules.specs.Outcome.{Kind, interest, dat, nack, Send, Outcome, quiet, nacksTo, nackFor}

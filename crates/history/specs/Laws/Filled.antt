@@ -9,7 +9,7 @@ use lib.ListN.{length, take, drop, set, length-append}
 use lib.Seq.{sets, sets-eq, length-sets, drop-set-lt, take-at, take-take, take-add, length-take-le}
 use native.Mathlib.Omega.{arith}
 use Rattle.sizes.specs.Sizes.{mostFaces, mostPacket, leastBuffer}
-use Rattle.history.specs.Sends.{mostNack}
+use Rattle.writing.specs.Most.{mostNack}
 use Rattle.history.specs.Moments.{paperRun}
 use Rattle.rules.specs.Node.{Node, Event}
 use Rattle.rules.specs.Outcome.{Kind, interest, dat, nack, Send}

@@ -25,6 +25,8 @@ use Rattle.laws.specs.Laws.Digits.{member-no, digit-zero, digit-high, member-an
 use Rattle.sizes.specs.Sizes.{mostFaces, mostEntries, mostName}
 use Rattle.records.specs.Slots.{atPlace, given}
 use Rattle.records.specs.Laws.Place.{place-past}
+use Rattle.records.specs.Class.{classOf, classNumber}
+use Rattle.records.specs.Laws.Class.{class-number}
 use Rattle.records.specs.Entry.{Entry}
 use Rattle.rows.specs.Lent.{Lent}
 use Rattle.faces.specs.Laws.Slot.{slots-length}
@@ -215,6 +217,13 @@ module _ (n : ℕ) (names heads : List (List ℕ)) (recs : List (List (List ℕ)
         rw (entry.view-requests n (getD names t []) (getD heads t []) (getD recs t [])) (slots-length n _ _),
         rw (entry.view-sent n (getD names t []) (getD heads t []) (getD recs t [])) (slots-length n _ _),
       )) i e q
+
+  -- an entry's class is what its number says
+  pub view-said : (i : ℕ) (e : Entry) → atPlace i (viewFor n names heads recs numbers s) ≡ some e → classOf (classNumber (e .cls)) ≡ e .cls
+  unfolding rowAt
+  view-said i e q =
+      view-each (λ (x : Entry). classOf (classNumber (x .cls)) ≡ x .cls)
+      (λ t. rw (entry.view-class n (getD names t []) (getD heads t []) (getD recs t [])) (ap classOf (class-number _))) i e q
 
   -- a handle of no entry has none
   pub place-past-last : (h : Handle) → ((h .row < mostEntries) × (member (h .row) (s .used) ≡ true) → ⊥)

@@ -1,0 +1,3 @@
+pub mod Goes
+pub mod Places
+pub mod Laws

@@ -1,0 +1,5 @@
+pub mod Memory
+pub mod Begun
+pub mod Comes
+pub mod Places
+pub mod Laws

@@ -1,0 +1,5 @@
+pub mod Prefix
+pub mod Faces
+pub mod Routes
+pub mod Comes
+pub mod Closing

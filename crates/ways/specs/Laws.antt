@@ -1,0 +1,6 @@
+pub mod Hop
+pub mod Eligible
+pub mod Loops
+pub mod Local
+pub mod Next
+pub mod Said
