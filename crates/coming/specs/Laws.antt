@@ -1,1 +1,4 @@
 pub mod Scope
+pub mod Guard
+pub mod Goes
+pub mod Found

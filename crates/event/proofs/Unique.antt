@@ -16,6 +16,8 @@ use Rattle.event.proofs.clear.Kinds as clear-kinds
 use Rattle.event.proofs.clear.Reads as clear-reads
 use Rattle.event.proofs.quiet.Kinds as quiet-kinds
 use Rattle.event.proofs.quiet.Reads as quiet-reads
+use Rattle.event.proofs.is_not_open.Kinds as open-kinds
+use Rattle.event.proofs.is_not_open.Reads as open-reads
 use Rattle.event.proofs.begins.Kinds as begins-kinds
 use Rattle.event.proofs.begins.Reads as begins-reads
 use Rattle.event.proofs.clock.Kinds as clock-kinds
@@ -31,6 +33,11 @@ clear-one κs a x y s t p q m k e f = p m e ∙ sym (q k f)
 pub quiet-one : (κs : Lfts 0) (a : Dens κs quiet-kinds.ps) (x y : resT quiet-kinds.r κs .Denot)
     (s t : AtExit (endedOf 0 quiet-kinds.ps quiet-kinds.r) κs) → quiet-reads.Post κs a x s → quiet-reads.Post κs a y t → x ≡ y
 quiet-one κs a x y s t p q = p ∙ sym q
+
+-- two answers about a face are the same
+pub is-not-open-one : (κs : Lfts 0) (a : Dens κs open-kinds.ps) (x y : resT open-kinds.r κs .Denot)
+    (s t : AtExit (endedOf 0 open-kinds.ps open-kinds.r) κs) → open-reads.Post κs a x s → open-reads.Post κs a y t → x ≡ y
+is-not-open-one κs a x y s t p q = p ∙ sym q
 
 -- what was lent, from its two ends
 abbrev lent : {A : Type 0} → RefT A → RefT A → Lent A
@@ -85,7 +92,7 @@ module _ (κs : Lfts 13) where
 
 module _ (κs : Lfts 13) where
   -- the memory of a reading of the clock at entry and at exit
-  abbrev clock-memory : Dens κs clock-kinds.ps → Came
+  abbrev pub clock-memory : Dens κs clock-kinds.ps → Came
       → AtExit (endedOf 13 clock-kinds.ps clock-kinds.r) κs → Both Memory Memory
   clock-memory a r s =
       memory (a .1 .1 .1 .1 .1 .1 .1 .1 .1 .1 .1 .1 .1 .0) (r .small)
@@ -101,7 +108,7 @@ module _ (κs : Lfts 13) where
       (lent (a .1 .1 .1 .1 .1 .1 .1 .1 .1 .0) (s .1 .1 .1 .1 .1 .1 .1 .1 .1 .0))
 
   -- its output at entry and at exit
-  abbrev clock-output : Dens κs clock-kinds.ps → AtExit (endedOf 13 clock-kinds.ps clock-kinds.r) κs → Both Output Output
+  abbrev pub clock-output : Dens κs clock-kinds.ps → AtExit (endedOf 13 clock-kinds.ps clock-kinds.r) κs → Both Output Output
   clock-output a s =
       output
       (lent (a .1 .1 .1 .1 .1 .1 .1 .1 .1 .1 .0) (s .1 .1 .1 .1 .1 .1 .1 .1 .1 .1 .0))

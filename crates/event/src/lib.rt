@@ -15,8 +15,11 @@ use sizes::LEAST_BUFFER;
 use sizes::MOST_TIME;
 use store::Store;
 ghost use mathlib.Core.Path.{_≡_};
+ghost use mathlib.Core.Bool.{not};
 ghost use Rattle.sizes.specs.Sizes.{mostFaces, leastBuffer};
 ghost use Rattle.names.specs.Fingerprint.{fingerprint};
+ghost use Rattle.records.specs.Face.{isOpen};
+ghost use Rattle.faces.specs.Places.View.{view};
 ghost use Rattle.rules.specs.Node as rules;
 ghost use Rattle.event.specs.Memory.{Memory, memory, output, nodeOf};
 ghost use Rattle.event.specs.Comes.{Stepped, Begun};
@@ -69,6 +72,16 @@ pub fn quiet(answer: Answer, small: Small, made: usize) -> Came
         sent: 0,
         made: made,
     }
+}
+
+// "number not 1..16; or not open": whether a number is not that of an open face.
+pub fn is_not_open(faces: Faces, face: usize) -> bool
+    ensures { λ r. ⌜ r ≡ not (isOpen (view faces) face) ⌝ }
+{
+    if faces.is_open(face) {
+        return false;
+    }
+    true
 }
 
 // The answer of checks 1, 2 and 3, in this order, where `bad` says that the face is refused.

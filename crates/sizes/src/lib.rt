@@ -36,5 +36,8 @@ pub const USUAL_LIFETIME: u64 = 4000;
 // "A FreshnessPeriod above 86,400,000 counts as that, absent as 0."
 pub const MOST_FRESHNESS: u64 = 86400000;
 
+// "Route cost 0 to 65,535."
+pub const MOST_COST: u64 = 65535;
+
 // "output buffer under 8,192"
 pub const LEAST_BUFFER: usize = 8192;

@@ -40,7 +40,7 @@ pub bytes-of-same : (κs : Lfts 2) (a b : Dens κs bytes-of-kinds.ps) (x y : res
     → view (now (a .0)) (now (a .1 .0)) (a .1 .1 .0) ≡ view (now (b .0)) (now (b .1 .0)) (b .1 .1 .0)
     → place (now (a .0)) (now (a .1 .0)) (a .1 .1 .0) (a .1 .1 .1 .0) ≡ place (now (b .0)) (now (b .1 .0)) (b .1 .1 .0) (b .1 .1 .1 .0)
     → bytes-of-reads.Post κs a x s → bytes-of-reads.Post κs b y t → now x ≡ now y
-bytes-of-same κs a b x y s t v h p q = rw (v, h) at p ∙ sym q
+bytes-of-same κs a b x y s t v h p q = rw (v, h) at (p .0) ∙ sym (q .0)
 
 -- a Data that is stored
 pub put-same : (κs : Lfts 3) (a b : Dens κs put-kinds.ps) (x y : resT put-kinds.r κs .Denot)

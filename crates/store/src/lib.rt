@@ -69,15 +69,30 @@ pub fn is_there(packets: &Packets, heads: &Heads, store: Store, taken: Handle) -
     false
 }
 
+// A row has all its bytes. It is said of a value, since of what stands behind a reference no length is known.
+fn has_all_bytes(row: [u8; PACKET])
+    ensures { λ _. ⌜ length row ≡ mostPacket ⌝ }
+{}
+
+// The first bytes of a row, no more than a packet has.
+fn bytes_in(row: &[u8; PACKET], len: u64) -> &[u8]
+    ensures { λ r. ⌜ now r ≡ take len (now (row .entry)) ⌝ }
+    ensures { λ r. ⌜ length (now r) ≤ mostPacket ⌝ }
+{
+    has_all_bytes(*row);
+    part(row, len)
+}
+
 // The bytes of a Data, where they stand; none where there is no Data.
 pub fn bytes_of<'a>(packets: &'a Packets, heads: &Heads, store: Store, taken: Handle) -> &'a [u8]
     ensures { λ r. ⌜ now r ≡ given [] (λ d. d .bytes) (found packets heads store taken) ⌝ }
+    ensures { λ r. ⌜ length (now r) ≤ mostPacket ⌝ }
 {
     let i = taken.at;
     if i < clamped(store.count, STORED) {
-        part(&packets[i], heads[i][LENGTH])
+        bytes_in(&packets[i], heads[i][LENGTH])
     } else {
-        part(&packets[0], 0)
+        bytes_in(&packets[0], 0)
     }
 }
 
@@ -114,7 +129,7 @@ fn leaving(packets: &Packets, heads: &Heads, store: Store, name: &[u8]) -> usize
     if i < STORED { i } else { 0 }
 }
 
-// A table has all its rows. It is said of a value, since of what stands behind a reference no length is known.
+// A table has all its rows.
 fn has_all_packets(packets: Packets)
     ensures { λ _. ⌜ length packets ≡ mostStored ⌝ }
 {}
@@ -122,11 +137,6 @@ fn has_all_packets(packets: Packets)
 // A table has all its heads.
 fn has_all_heads(heads: Heads)
     ensures { λ _. ⌜ length heads ≡ mostStored ⌝ }
-{}
-
-// A row has all its bytes.
-fn has_all_bytes(row: [u8; PACKET])
-    ensures { λ _. ⌜ length row ≡ mostPacket ⌝ }
 {}
 
 // The Data at a place goes, and those after it move one place down; a place past the last changes nothing. How many there are then.

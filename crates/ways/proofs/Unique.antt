@@ -1,24 +1,19 @@
--- One outcome for each input of each public function: any two that its contract admits are equal. Whether an Interest loops is fixed for
--- the handle of its own entry, the next hop for a handle that has an entry.
+-- One outcome for each input of each public function: any two that its contract admits are equal.
 -- Assumes nothing.
 use mathlib.Core.Path.{_≡_, refl, sym, _∙_}
-use mathlib.Core.Bool.{Bool, false}
+use mathlib.Core.Bool.{false}
 use mathlib.Core.List.{[]}
-use mathlib.Core.Option.{none, some}
+use mathlib.Core.Option.{none}
 use contract.Lifetimes.{Lfts}
 use denote.Ref.{now}
 use denote.Triple.Clauses.{AtExit}
 use borrow.Fn.Kinds.{Dens, endedOf, resT}
-use Rattle.laws.specs.Lists.{indexOf}
-use Rattle.records.specs.Slots.{atPlace}
-use Rattle.records.specs.Entry.{Entry, isKnown}
 use Rattle.faces.specs.Places.View as faces
 use Rattle.dead.specs.Places.View as dead
 use Rattle.routes.specs.Places.View as routes
-use Rattle.pending_table.specs.Places.View.{view, place}
 use Rattle.coming.specs.Places.Found.{limitOf}
 use Rattle.rules.specs.Node.{Node}
-use Rattle.rules.specs.Interest.{Arrival, entryOf}
+use Rattle.rules.specs.Interest.{Arrival}
 use Rattle.ways.proofs.is_zero.Kinds as is-zero-kinds
 use Rattle.ways.proofs.is_zero.Reads as is-zero-reads
 use Rattle.ways.proofs.eligible.Kinds as eligible-kinds
@@ -61,22 +56,16 @@ pub expiry-of-one : (κs : Lfts 0) (a : Dens κs expiry-of-kinds.ps) (x y : resT
     → x ≡ y
 expiry-of-one κs a x y s t p q = p ∙ sym q
 
--- two answers whether an Interest loops, for the handle of its own entry
+-- two answers whether an Interest loops
 pub loops-one : (κs : Lfts 6) (a : Dens κs loops-kinds.ps) (x y : resT loops-kinds.r κs .Denot)
-    (s t : AtExit (endedOf 6 loops-kinds.ps loops-kinds.r) κs) → loops-reads.Post κs a x s → loops-reads.Post κs a y t
-    → (prefix fresh : Bool)
-    → place (now (a .1 .1 .1 .0)) (a .1 .1 .1 .1 .1 .0 .pending) (a .1 .1 .1 .1 .1 .1 .0)
-    ≡ indexOf (isKnown (now (a .1 .1 .1 .1 .1 .1 .1 .1 .0)) prefix fresh)
-    (view (now (a .0)) (now (a .1 .0)) (now (a .1 .1 .0)) (now (a .1 .1 .1 .0)) (a .1 .1 .1 .1 .1 .0 .pending))
-    → x ≡ y
-unfolding entryOf
-loops-one κs a x y s t p q prefix fresh e =
+    (s t : AtExit (endedOf 6 loops-kinds.ps loops-kinds.r) κs) → loops-reads.Post κs a x s → loops-reads.Post κs a y t → x ≡ y
+loops-one κs a x y s t p q =
     let small = a .1 .1 .1 .1 .1 .0 in
     let n : Node = record {
       time = 0;
       faces = faces.view (small .faces);
       routes = [];
-      pending = view (now (a .0)) (now (a .1 .0)) (now (a .1 .1 .0)) (now (a .1 .1 .1 .0)) (small .pending);
+      pending = [];
       store = [];
       dead = dead.view (now (a .1 .1 .1 .1 .0)) (small .ring);
     } in
@@ -84,26 +73,21 @@ loops-one κs a x y s t p q prefix fresh e =
       face = a .1 .1 .1 .1 .1 .1 .1 .0;
       ask = record {
         name = now (a .1 .1 .1 .1 .1 .1 .1 .1 .0);
-        canBePrefix = prefix;
-        mustBeFresh = fresh;
+        canBePrefix = false;
+        mustBeFresh = false;
         nonce = a .1 .1 .1 .1 .1 .1 .1 .1 .1 .0;
         lifetime = 0;
         hop = none;
       };
       bytes = [];
     } in
-    p n i refl refl refl refl refl refl e ∙ sym (q n i refl refl refl refl refl refl e)
+    p n i refl refl refl refl refl ∙ sym (q n i refl refl refl refl refl)
 
--- two next hops, for a handle that has an entry
+-- two next hops
 pub next-hop-one : (κs : Lfts 8) (a : Dens κs next-hop-kinds.ps) (x y : resT next-hop-kinds.r κs .Denot)
     (s t : AtExit (endedOf 8 next-hop-kinds.ps next-hop-kinds.r) κs) → next-hop-reads.Post κs a x s → next-hop-reads.Post κs a y t
-    → (e : Entry)
-    → atPlace (place (now (a .1 .1 .1 .1 .1 .1 .0)) (a .1 .1 .1 .1 .1 .1 .1 .0 .pending) (a .1 .1 .1 .1 .1 .1 .1 .1 .0))
-    (view (now (a .1 .1 .1 .0)) (now (a .1 .1 .1 .1 .0)) (now (a .1 .1 .1 .1 .1 .0)) (now (a .1 .1 .1 .1 .1 .1 .0))
-    (a .1 .1 .1 .1 .1 .1 .1 .0 .pending))
-    ≡ some e
     → x ≡ y
-next-hop-one κs a x y s t p q e there =
+next-hop-one κs a x y s t p q =
     let small = a .1 .1 .1 .1 .1 .1 .1 .0 in
     let n : Node = record {
       time = 0;
@@ -125,4 +109,4 @@ next-hop-one κs a x y s t p q e there =
       };
       bytes = [];
     } in
-    p n i e refl refl refl refl refl there ∙ sym (q n i e refl refl refl refl refl there)
+    p n i refl refl refl refl refl ∙ sym (q n i refl refl refl refl refl)

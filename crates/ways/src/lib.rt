@@ -14,24 +14,25 @@ use sizes::MOST_LIFETIME;
 use sizes::MOST_TIME;
 ghost use mathlib.Core.Path.{_≡_};
 ghost use mathlib.Core.Bool.{Bool, false, _&&_, _||_, not};
-ghost use mathlib.Core.Option.{none, some};
 ghost use Prim.Native.Nat.{ℕ, _+_, min};
 ghost use lib.Dec.{eqb};
 ghost use Rattle.sizes.specs.Sizes.{mostFaces, mostTime, mostLifetime};
 ghost use Rattle.records.specs.Slots.{given, holds};
 ghost use Rattle.records.specs.Face.{isOpen, isPeer, isAdHocFace};
 ghost use Rattle.records.specs.Route.{longest};
-ghost use Rattle.records.specs.Entry.{Entry, ownNonce};
+ghost use Rattle.records.specs.Entry.{ownNonce};
 ghost use Rattle.faces.specs.Set.{facesWhere};
 ghost use Rattle.faces.specs.Places.View.{view};
 ghost use Rattle.dead.specs.Places.View as dead;
 ghost use Rattle.routes.specs.Places.View as routes;
-ghost use Rattle.pending_table.specs.Places.View.{before, placeOf, entryAt};
+ghost use Rattle.pending_table.specs.Places.View.{entryAt};
 ghost use Rattle.coming.specs.Places.Found.{limitOf};
 ghost use Rattle.rules.specs.Node.{Node};
 ghost use Rattle.rules.specs.Interest as rules;
-ghost use Rattle.rules.specs.Interest.{Arrival, hopIsZero, spent, entryOf, entryLoops, fromLocalFace, nextHop, resends};
+ghost use Rattle.rules.specs.Interest.{Arrival, hopIsZero, spent, entryLoops, fromLocalFace};
+ghost use Rattle.ways.specs.Ways.{loopsBy, resendsBy};
 ghost use Rattle.ways.specs.Places.Stays.{staysLocal};
+ghost use Rattle.ways.specs.Places.Next.{nextOf};
 
 // "Interest with HopLimit 0"
 pub fn is_zero(hop: Hop) -> bool
@@ -151,7 +152,7 @@ fn entry_loops(
     pending_handle::has_nonce(names, heads, recs, numbers, s, h, nonce)
 }
 
-// "LOOP: a live fingerprint equals this one; or the entry has the nonce": of the entry that a handle stands for.
+// "LOOP: a live fingerprint equals this one; or the entry has the nonce": of the entry that a handle stands for, if it does.
 pub fn loops(
     names: &pending_table::Names,
     heads: &pending_table::Heads,
@@ -165,9 +166,8 @@ pub fn loops(
     nonce: u64,
 ) -> bool
     ensures { λ r. ⌜ ((n : Node) (a : Arrival) → n .faces ≡ view (small .faces)
-        → n .pending ≡ before names heads recs numbers (small .pending) → n .dead ≡ dead.before lines (small .ring)
-        → a .face ≡ face → a .ask .name ≡ now (name .entry) → a .ask .nonce ≡ nonce
-        → placeOf numbers (small .pending) h ≡ entryOf n (a .ask) → r ≡ rules.loops (small .time) n a) ⌝ }
+        → n .dead ≡ dead.before lines (small .ring) → a .face ≡ face → a .ask .name ≡ now (name .entry) → a .ask .nonce ≡ nonce
+        → r ≡ loopsBy (small .time) n a (entryAt names heads recs numbers (small .pending) h)) ⌝ }
 {
     let s = small.pending;
     let faces = small.faces;
@@ -179,7 +179,7 @@ pub fn loops(
     entry_loops(names, heads, recs, numbers, s, h, faces, face, nonce)
 }
 
-// Whether some request of an entry is from a local face.
+// Whether some request of an entry is from a local face; a handle of no entry has none.
 fn is_from_local(
     names: &pending_table::Names,
     heads: &pending_table::Heads,
@@ -189,15 +189,14 @@ fn is_from_local(
     h: Handle,
     faces: Faces,
 ) -> bool
-    ensures { λ r. ⌜ ((n : Node) (e : Entry) → n .faces ≡ view faces → entryAt names heads recs numbers s h ≡ some e
-        → r ≡ fromLocalFace n e) ⌝ }
+    ensures { λ r. ⌜ ((n : Node) → n .faces ≡ view faces → r ≡ holds (fromLocalFace n) (entryAt names heads recs numbers s h)) ⌝ }
 {
     let asking = pending_handle::asking_faces(names, heads, recs, numbers, s, h);
     common(asking, faces.all_local()) != 0
 }
 
 // "in the longest matching route, use the cheapest eligible hop without an out-record; failing that, the eligible hop with the earliest
-// one", 0 where there is none.
+// one", 0 where there is none or no entry.
 fn choose(
     prefixes: &routes::Names,
     settings: &routes::Heads,
@@ -212,8 +211,9 @@ fn choose(
     name: &[u8],
     may: u64,
 ) -> usize
-    ensures { λ r. ⌜ ((p : ℕ → Bool) (e : Entry) → may ≡ facesWhere mostFaces p → entryAt names heads recs numbers s h ≡ some e
-        → r ≡ given 0 (λ f. f) (given none (nextHop p e) (longest (now (name .entry)) (routes.before prefixes settings costs known)))) ⌝ }
+    ensures { λ r. ⌜ ((p : ℕ → Bool) → may ≡ facesWhere mostFaces p
+        → r ≡ given 0 (λ f. f) (nextOf p (longest (now (name .entry)) (routes.before prefixes settings costs known))
+        (entryAt names heads recs numbers s h))) ⌝ }
 {
     let route = routes::longest(prefixes, settings, costs, known, name);
     let unsent = pending_handle::unsent(names, heads, recs, numbers, s, h, may);
@@ -225,7 +225,8 @@ fn choose(
     pending_handle::earliest(names, heads, recs, numbers, s, h, common(hops, may))
 }
 
-// The hop that a further Interest of an entry takes, 0 for none: "If the newest out-record was sent under 100 ms ago, send nothing."
+// The hop that a further Interest of an entry takes, 0 for none and for no entry: "If the newest out-record was sent under 100 ms ago, send
+// nothing."
 pub fn next_hop(
     prefixes: &routes::Names,
     settings: &routes::Heads,
@@ -240,10 +241,10 @@ pub fn next_hop(
     name: &[u8],
     hop: Hop,
 ) -> usize
-    ensures { λ r. ⌜ ((n : Node) (a : Arrival) (e : Entry) → n .faces ≡ view (small .faces)
+    ensures { λ r. ⌜ ((n : Node) (a : Arrival) → n .faces ≡ view (small .faces)
         → n .routes ≡ routes.before prefixes settings costs (small .routes)
         → a .face ≡ face → a .ask .name ≡ now (name .entry) → a .ask .hop ≡ limitOf hop
-        → entryAt names heads recs numbers (small .pending) h ≡ some e → r ≡ given 0 (λ f. f) (resends (small .time) n a e)) ⌝ }
+        → r ≡ given 0 (λ f. f) (resendsBy (small .time) n a (entryAt names heads recs numbers (small .pending) h))) ⌝ }
 {
     let s = small.pending;
     let faces = small.faces;

@@ -17,10 +17,10 @@ unfoldable pub limitOf : Hop → Option ℕ
 limitOf Hop.Absent = none
 limitOf (Hop.Limit n at) = some n
 
--- an Interest as it was found in a bare packet: its name is what the name finder gives; a lifetime above 60,000 counts as that
-unfoldable pub askFound : List ℕ → Interest → Ask
-askFound bare i = record {
-  name = nameOf bare;
+-- an Interest as it was found in a bare packet, of a name: a lifetime above 60,000 counts as that
+abbrev pub askNamed : List ℕ → Interest → Ask
+askNamed name i = record {
+  name = name;
   canBePrefix = i .«can_be_prefix»;
   mustBeFresh = i .«must_be_fresh»;
   nonce = i .nonce;
@@ -28,7 +28,15 @@ askFound bare i = record {
   hop = limitOf (i .hop);
 }
 
--- the same on the face where it came, with its bytes as it leaves
+-- the same of the name that the name finder gives
+unfoldable pub askFound : List ℕ → Interest → Ask
+askFound bare i = askNamed (nameOf bare) i
+
+-- an Interest of a name on the face where it came, with its bytes as it leaves
+unfoldable pub arrivalNamed : ℕ → List ℕ → List ℕ → Interest → Arrival
+arrivalNamed f name bare i = record { face = f; ask = askNamed name i; bytes = lowered bare (i .hop) }
+
+-- the same of the name that the name finder gives
 unfoldable pub arrivalFound : ℕ → List ℕ → Interest → Arrival
 arrivalFound f bare i = record { face = f; ask = askFound bare i; bytes = lowered bare (i .hop) }
 

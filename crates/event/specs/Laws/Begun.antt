@@ -1,12 +1,13 @@
 -- Every event begins as `begun` says, and goes on from there or is refused.
 -- Assumes nothing.
-use Prim.Native.Nat.{ℕ, suc}
+use Prim.Native.Nat.{ℕ, suc, _≤_}
 use mathlib.Core.Path.{_≡_, refl, sym, ap, _∙_}
 use mathlib.Core.Bool.{Bool, true, false, _||_}
 use mathlib.Core.List.{List, [], append-nil}
 use mathlib.Core.Logic.{_≢_}
 use native.Mathlib.Omega.{arith}
 use lib.Dec.{ltb}
+use borrow.Author.Tests.{ltb-false}
 use Rattle.answers.specs.declared.Answer.{Answer}
 use Rattle.answers.specs.Number.{numberOf}
 use Rattle.laws.specs.Pick.{pick}
@@ -84,20 +85,38 @@ module _ (least time room : ℕ) (bad : Bool) (n : Node) (y : Answer) (e : y ≡
 -- by tests an outcome with answer 0 has passed them all
 tests-past : (n : Node) (x : Outcome) (a b c : Bool)
     → numberOf (pick a (quiet Answer.Clock n) (pick b (quiet Answer.SmallBuffer n) (pick c (quiet Answer.BadFace n) x)) .answer) ≡ 0
-    → (c ≡ false) × (pick a (quiet Answer.Clock n) (pick b (quiet Answer.SmallBuffer n) (pick c (quiet Answer.BadFace n) x)) ≡ x)
+    → (a ≡ false) × (b ≡ false) × (c ≡ false)
+    × (pick a (quiet Answer.Clock n) (pick b (quiet Answer.SmallBuffer n) (pick c (quiet Answer.BadFace n) x)) ≡ x)
 unfolding pick quiet
 tests-past n x true b c e = absurd (omega arith)
 tests-past n x false true c e = absurd (omega arith)
 tests-past n x false false true e = absurd (omega arith)
-tests-past n x false false false e = (refl, refl)
+tests-past n x false false false e = (refl, refl, refl, refl)
+
+-- where neither of two tests holds, the second does not
+neither : (a b : Bool) → a || b ≡ false → b ≡ false
+neither true b e = let z : _≡_ {A = ℕ} 0 1 = cc in absurd (omega arith)
+neither false b e = e
 
 module _ (least time room : ℕ) (bad : Bool) (n : Node) (e : numberOf (begun least time room bad n .answer) ≡ 0) where
-  -- an event that goes on has a face that is not refused
+  -- an event that goes on has a time that is not above 2^53
+  pub begun-timely : time ≤ mostTime
+  unfolding begun badTime
+  begun-timely =
+      ltb-false mostTime time
+      (neither (ltb time (n .time)) (ltb mostTime time) (tests-past n _ (badTime n time) (ltb room least) bad e .0))
+
+  -- a buffer that is long enough
+  pub begun-roomy : least ≤ room
+  unfolding begun
+  begun-roomy = ltb-false room least (tests-past n _ (badTime n time) (ltb room least) bad e .1)
+
+  -- and a face that is not refused
   pub begun-face : bad ≡ false
   unfolding begun
-  begun-face = tests-past n _ (badTime n time) (ltb room least) bad e .0
+  begun-face = tests-past n _ (badTime n time) (ltb room least) bad e .2
 
-  -- and goes on from the aged node
+  -- it goes on from the aged node
   pub begun-on : begun least time room bad n ≡ afterAgeing (ageing time n) (quiet Answer.Done (aged time n))
   unfolding begun
-  begun-on = tests-past n _ (badTime n time) (ltb room least) bad e .1
+  begun-on = tests-past n _ (badTime n time) (ltb room least) bad e .3

@@ -12,7 +12,7 @@ use lib.ListN.{length, length-map}
 use lib.Seq.{sets}
 use Rattle.answers.specs.declared.Answer.{Answer}
 use Rattle.answers.specs.Number.{numberOf}
-use Rattle.sizes.specs.Sizes.{mostFaces, mostEntries, leastBuffer}
+use Rattle.sizes.specs.Sizes.{mostFaces, mostEntries, mostTime, leastBuffer}
 use Rattle.records.specs.Slots.{atPlace, held, only, each}
 use Rattle.records.specs.Entry.{Entry}
 use Rattle.records.specs.Happening.{Fate, Happening}
@@ -27,7 +27,7 @@ use Rattle.pending_pass.specs.Satisfies.{endsBy}
 use Rattle.pending_pass.specs.Laws.Asked as pass
 use Rattle.rules.specs.Node.{Node}
 use Rattle.rules.specs.Outcome.{Outcome, quiet}
-use Rattle.rules.specs.Packed.{packed}
+use Rattle.rules.specs.Packed.{packed, packedFrom}
 use Rattle.rules.specs.Ageing.{aged, ageing}
 use Rattle.rules.specs.Step.{afterAgeing}
 use Rattle.event.specs.declared.Came.{Came}
@@ -35,7 +35,7 @@ use Rattle.event.specs.Memory.{Table, Memory, Output, nodeOf}
 use Rattle.sending.specs.Rows.{sendRow}
 use Rattle.event.specs.Begun.{begun}
 use Rattle.event.specs.Comes.{Comes, Begun}
-use Rattle.event.specs.Laws.Begun.{begun-on}
+use Rattle.event.specs.Laws.Begun.{begun-on, begun-timely, begun-roomy}
 
 -- happenings that have their rows are noted whole
 pub notes-whole : (r k : ℕ) (after before : Table) (hs : List Happening) → k + length hs ≤ mostRows
@@ -88,6 +88,26 @@ module _ (time : ℕ) (bad : Bool) (b : Came) (m : Both Memory Memory) (o : Both
   on : begun leastBuffer time (length (o .entry .buffer)) bad (nodeOf (m .entry))
       ≡ afterAgeing (ageing time (nodeOf (m .entry))) (quiet Answer.Done (aged time (nodeOf (m .entry))))
   on = begun-on leastBuffer time (length (o .entry .buffer)) bad (nodeOf (m .entry)) (ap numberOf (sym (h .answer)) ∙ d)
+
+  -- the last time is the event's
+  pub begun-now : nodeOf (m .exit) .time ≡ time
+  unfolding afterAgeing quiet aged
+  begun-now = ap (λ n. n .time) (h .node) ∙ ap (λ x. x .node .time) on
+
+  -- it is not above 2^53
+  pub begun-in-time : time ≤ mostTime
+  begun-in-time = begun-timely leastBuffer time (length (o .entry .buffer)) bad (nodeOf (m .entry)) (ap numberOf (sym (h .answer)) ∙ d)
+
+  -- the buffer is as it was
+  pub begun-buffer : o .exit .buffer ≡ o .entry .buffer
+  unfolding afterAgeing quiet packed packedFrom
+  begun-buffer = h .buffer ∙ ap (λ x. packed (x .sends) (o .entry .buffer) .buffer) on
+
+  -- and long enough
+  pub begun-long : leastBuffer ≤ length (o .exit .buffer)
+  begun-long =
+      rw begun-buffer
+      (begun-roomy leastBuffer time (length (o .entry .buffer)) bad (nodeOf (m .entry)) (ap numberOf (sym (h .answer)) ∙ d))
 
   -- there are as many rows as requests expired
   pub begun-made : b .made ≡ length (agedRows time es)

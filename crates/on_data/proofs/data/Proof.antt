@@ -1,7 +1,7 @@
 -- By what is asked again, then by the scope.
 use borrow.Author.Needs.{needs}
 use mathlib.Core.Path.{sym, _∙_}
-use Rattle.on_data.specs.Laws.Guard.{guard-packet, guard-room}
+use Rattle.coming.specs.Laws.Guard.{guard-packet, guard-room}
 use Rattle.on_data.specs.Laws.Data.{data-stops, data-scope, data-brings}
 use Rattle.on_data.proofs.data.Statement.{statement}
 use Rattle.on_data.proofs.data.Tie as tie

@@ -42,7 +42,7 @@ use Rattle.event.specs.Memory.{Table}
 use Rattle.coming.specs.Goes.{Goes}
 use Rattle.on_data.specs.Places.Brings.{brings}
 use Rattle.on_data.specs.Laws.Only.{none-in, some-in, only-both, only-all}
-use Rattle.on_data.specs.Laws.Goes.{goes-by, goes-packed}
+use Rattle.coming.specs.Laws.Goes.{goes-by, goes-packed}
 
 -- the classes of pending entries are said by their numbers, whatever the tables hold
 pub pending-said : (names heads : Table) (recs : List Table) (numbers : List ℕ) (s : Pending)

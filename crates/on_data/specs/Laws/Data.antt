@@ -35,8 +35,8 @@ use Rattle.event.specs.Memory.{Table, Memory, Output, nodeOf}
 use Rattle.coming.specs.Goes.{Goes, guardSays}
 use Rattle.coming.specs.Places.Found.{offerFound}
 use Rattle.on_data.specs.Places.Brings.{dataOn, brings}
-use Rattle.on_data.specs.Laws.Guard.{guard-stops, guard-goes}
-use Rattle.on_data.specs.Laws.Goes.{goes-by, goes-quiet}
+use Rattle.coming.specs.Laws.Guard.{guard-stops, guard-goes}
+use Rattle.coming.specs.Laws.Goes.{goes-by, goes-quiet}
 use Rattle.on_data.specs.Laws.Brings.{pending-said, puts-stored, goes-unsolicited, goes-satisfies}
 
 module _ (s : Small) (face made : ℕ) (bare : List ℕ) (d : Data) (p g c n h : Table) (e : List Table) (m : List ℕ) where

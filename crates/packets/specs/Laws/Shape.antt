@@ -1,21 +1,22 @@
 -- What is read of a packet's elements, and the other way round what a packet that is read is made of: an Interest, a Data, and the header
 -- that it came with.
 -- Assumes nothing.
-use Prim.Native.Nat.{ℕ, _^_, _≤_, _<_}
+use Prim.Native.Nat.{ℕ, _+_, _-_, _^_, _≤_, _<_}
 use mathlib.Core.Path.{_≡_, refl, sym, _∙_, ap}
 use mathlib.Core.Bool.{Bool, false}
 use mathlib.Core.Logic.{_≢_}
 use mathlib.Core.List.{List, [], _∷_}
-use lib.ListN.{length}
+use lib.ListN.{length, take, drop, length-drop}
+use lib.Seq.{take-all, drop-drop}
 use lib.Dec.{ltb, eqb}
 use borrow.Author.Tests.{le-ltb, ne-eqb, ltb-false, eqb-true, eqb-false}
 use native.Mathlib.Omega.{arith}
 use Rattle.laws.specs.Pick.{pick}
 use Rattle.laws.specs.Laws.Pick.{pick-ind}
 use Rattle.wire.specs.Element.{Elem, bad, elem, element, onward}
-use Rattle.wire.specs.Laws.Within.{element-less, value-bytes}
+use Rattle.wire.specs.Laws.Within.{ElementWithin, element-within, value-bytes}
 use Rattle.wire.specs.Bytes.{Bytes}
-use Rattle.wire.specs.Laws.Bytes.{big-below}
+use Rattle.wire.specs.Laws.Bytes.{big-below, bytes-take, bytes-drop}
 use Rattle.wire.specs.Number.{isWhole}
 use Rattle.wire.specs.Verdict.{isMalformed, isUnsupported}
 use Rattle.wire.specs.Laws.Verdict.{said-fine}
@@ -242,102 +243,87 @@ module _ (k : Nacked) (m : Bool) (l : List ℕ) where
 
 -- ---- the header
 
--- a bare packet has n bytes at most
-abbrev Within : ℕ → Came → Type 0
-Within n (header.refused a) = Unit {0}
-Within n (bare b) = length (b .bytes) ≤ n
+-- a field that stands in the value of the last element stands in the whole
+pub last-in : (l : List ℕ) {t : ℕ} {v : List ℕ} {x : Field} → element l ≡ elem t v [] → FieldIn v x → FieldIn l x
+last-in l {t} {v} {x} e h =
+    let w : ElementWithin l t v [] = element-within l e in
+    let n : length l ≡ w .head + length v = omega (arith, w .fits, ap length (w .rest), length-drop (w .head + length v) l) in
+    let d : v ≡ drop (w .head) l = w .value ∙ take-all (length v) (drop (w .head) l) (omega (arith, length-drop (w .head) l)) in
+    record {
+      fits = λ q. omega (arith, h .fits q);
+      value = λ {v = u} {k = k} q.
+          let a : w .head + (length v - k - length u) ≡ length l - k - length u = omega (arith, h .fits q) in
+          h .value q ∙ ap (λ (z : List ℕ). take (length u) (drop (length v - k - length u) z)) d
+          ∙ rw (drop-drop (length v - k - length u) (w .head) l, a);
+    }
 
--- of a Fragment
-fragment-within : (n : ℕ) (x : Field) (k : Nacked) (m : Bool) → length (bytesIn x) ≤ n → Within n (fragmentRead x k m)
+-- where a bare packet stands in the packet l that it came in, which has 1,500 bytes at most
+pub record BareIn (l : List ℕ) (b : Bare) : Type 0 where
+  pub short : length l ≤ 1500
+  pub fits : length (b .bytes) + b .left ≤ length l
+  pub value : b .bytes ≡ take (length (b .bytes)) (drop (length l - b .left - length (b .bytes)) l)
+
+-- so it stands, if it is not refused
+abbrev Stands : List ℕ → Came → Type 0
+Stands l (header.refused a) = Unit {0}
+Stands l (bare b) = BareIn l b
+
+-- that of a Fragment
+fragment-in : (l : List ℕ) (x : Field) (k : Nacked) (m : Bool) → length l ≤ 1500 → FieldIn l x → Stands l (fragmentRead x k m)
 unfolding fragmentRead
-fragment-within n absent k m h = tt
-fragment-within n (here v r) k m h = h
+fragment-in l absent k m s h = tt
+fragment-in l (here w j) k m s h = record { short = s; fits = omega (arith, h .fits refl); value = h .value refl }
 
 -- of an LpPacket's elements
-fields-within : (n : ℕ) (f g : Fields) → length (bytesIn (val f 2)) ≤ n → Within n (lpFields f g)
+fields-in : (l : List ℕ) (f g : Fields) → length l ≤ 1500 → FieldIn l (val f 2) → Stands l (lpFields f g)
 unfolding lpFields
-fields-within n f g h =
-    pick-ind (Within n) (isMalformed (f .said)) _ _ (λ _. tt)
-    (λ _. pick-ind (Within n) (isMalformed (g .said)) _ _ (λ _. tt)
-    (λ _. fragment-within n (val f 2) (nackedBy (val f 1) (val g 1)) (isUnsupported (f .said)) h))
+fields-in l f g s h =
+    pick-ind (Stands l) (isMalformed (f .said)) _ _ (λ _. tt)
+    (λ _. pick-ind (Stands l) (isMalformed (g .said)) _ _ (λ _. tt)
+    (λ _. fragment-in l (val f 2) (nackedBy (val f 1) (val g 1)) (isUnsupported (f .said)) s h))
 
--- of an LpPacket, since its Fragment lies within it
-lp-within : (v : List ℕ) → Within (length v) (lpRead v)
+-- of an LpPacket that is a packet's one element
+lp-in : (l : List ℕ) (t : ℕ) (v : List ℕ) → length l ≤ 1500 → element l ≡ elem t v [] → Stands l (lpRead v)
 unfolding lpRead
-lp-within v =
-    fields-within (length v) (walked lp v) (walked nack (bytesIn (val (walked lp v) 1)))
-    (inside (val (walked lp v) 2) (walked-in lp v 2))
-  where
-    inside : (x : Field) → FieldIn v x → length (bytesIn x) ≤ length v
-    inside absent h = omega arith
-    inside (here w k) h = omega (arith, h .fits refl)
+lp-in l t v s e =
+    fields-in l (walked lp v) (walked nack (bytesIn (val (walked lp v) 1))) s (last-in l e (walked-in lp v 2))
 
--- of what is not longer
-within-more : (a b : ℕ) (c : Came) → a ≤ b → Within a c → Within b c
-within-more a b (header.refused x) h w = tt
-within-more a b (bare x) h w = omega arith
+-- of a packet that is bare
+whole-in : (l : List ℕ) → length l ≤ 1500 → Stands l (bare (record { nack = Nacked.No; marked = false; bytes = l; left = 0 }))
+whole-in l s =
+    let z : length l - 0 - length l ≡ 0 = omega arith in
+    record { short = s; fits = omega arith; value = rw z (sym (take-all (length l) l (omega arith))) }
 
 -- of a packet as it came
-header-within : (l : List ℕ) → Within 1500 (headerRead l)
+header-in : (l : List ℕ) → Stands l (headerRead l)
 unfolding headerRead outerRead
-header-within l =
-    pick-ind (Within 1500) (ltb 1500 (length l)) _ _ (λ _. tt) (λ h. go (ltb-false 1500 (length l) h) (element l) refl)
+header-in l = pick-ind (Stands l) (ltb 1500 (length l)) _ _ (λ _. tt) (λ h. go (ltb-false 1500 (length l) h) (element l) refl)
   where
     go : length l ≤ 1500 → (e : Elem) → element l ≡ e
-        → Within 1500 (onward e (header.refused Answer.Malformed) (λ t v r. pick (ltb 0 (length r)) (header.refused Answer.Malformed) (outerRead t v l)))
-    go h bad e = tt
-    go h (elem t v r) e =
-        pick-ind (Within 1500) (ltb 0 (length r)) _ _ (λ _. tt)
-        (λ _. pick-ind (Within 1500) (eqb (rowOf outer t table .order) 0) _ _ (λ _. tt)
-        (λ _. pick-ind (Within 1500) (eqb (rowOf outer t table .order) 3) _ _
-        (λ _. within-more (length v) 1500 (lpRead v) (omega (arith, element-less l e)) (lp-within v))
-        (λ _. h)))
-
--- a bare packet has 1,500 bytes at most, as the packet that it came in
-pub bare-short : (l : List ℕ) {b : Bare} → headerRead l ≡ bare b → length (b .bytes) ≤ 1500
-bare-short l {b} e = let h : Within 1500 (bare b) = rw e at (header-within l) in h
-
--- where a bare packet stands, it is bytes
-abbrev BareBytes : Came → Type 0
-BareBytes (header.refused a) = Unit {0}
-BareBytes (bare b) = Bytes (b .bytes)
-
--- of a Fragment
-fragment-bytes : (v : List ℕ) (x : Field) (k : Nacked) (m : Bool) → FieldIn v x → Bytes v → BareBytes (fragmentRead x k m)
-unfolding fragmentRead
-fragment-bytes v absent k m h b = tt
-fragment-bytes v (here w j) k m h b = field-bytes h refl b
-
--- of an LpPacket's elements
-fields-bytes : (v : List ℕ) (f g : Fields) → FieldIn v (val f 2) → Bytes v → BareBytes (lpFields f g)
-unfolding lpFields
-fields-bytes v f g h b =
-    pick-ind BareBytes (isMalformed (f .said)) _ _ (λ _. tt)
-    (λ _. pick-ind BareBytes (isMalformed (g .said)) _ _ (λ _. tt)
-    (λ _. fragment-bytes v (val f 2) (nackedBy (val f 1) (val g 1)) (isUnsupported (f .said)) h b))
-
--- of an LpPacket
-lp-bytes : (v : List ℕ) → Bytes v → BareBytes (lpRead v)
-unfolding lpRead
-lp-bytes v b = fields-bytes v (walked lp v) (walked nack (bytesIn (val (walked lp v) 1))) (walked-in lp v 2) b
-
--- of a packet as it came
-header-bytes : (l : List ℕ) → Bytes l → BareBytes (headerRead l)
-unfolding headerRead outerRead
-header-bytes l b = pick-ind BareBytes (ltb 1500 (length l)) _ _ (λ _. tt) (λ _. go (element l) refl)
-  where
-    go : (x : Elem) → element l ≡ x
-        → BareBytes (onward x (header.refused Answer.Malformed)
+        → Stands l (onward e (header.refused Answer.Malformed)
         (λ t v r. pick (ltb 0 (length r)) (header.refused Answer.Malformed) (outerRead t v l)))
-    go bad e = tt
-    go (elem t v r) e =
-        pick-ind BareBytes (ltb 0 (length r)) _ _ (λ _. tt)
-        (λ _. pick-ind BareBytes (eqb (rowOf outer t table .order) 0) _ _ (λ _. tt)
-        (λ _. pick-ind BareBytes (eqb (rowOf outer t table .order) 3) _ _ (λ _. lp-bytes v (value-bytes l b e)) (λ _. b)))
+    go s bad e = tt
+    go s (elem t v r) e =
+        pick-ind (Stands l) (ltb 0 (length r)) _ _ (λ _. tt)
+        (λ h. pick-ind (Stands l) (eqb (rowOf outer t table .order) 0) _ _ (λ _. tt)
+        (λ _. pick-ind (Stands l) (eqb (rowOf outer t table .order) 3) _ _
+        (λ _. let z : r ≡ [] = none-left r (ltb-false 0 (length r) h) in lp-in l t v s (rw z at e))
+        (λ _. whole-in l s)))
 
--- the bare packet in bytes is bytes
+-- a bare packet stands in the packet that it came in
+pub bare-in : (l : List ℕ) {b : Bare} → headerRead l ≡ bare b → BareIn l b
+bare-in l {b} e = let h : Stands l (bare b) = rw e at (header-in l) in h
+
+-- so it has 1,500 bytes at most
+pub bare-short : (l : List ℕ) {b : Bare} → headerRead l ≡ bare b → length (b .bytes) ≤ 1500
+bare-short l e = let h = bare-in l e in omega (arith, h .short, h .fits)
+
+-- and is bytes where that is
 pub bare-bytes : (l : List ℕ) → Bytes l → {b : Bare} → headerRead l ≡ bare b → Bytes (b .bytes)
-bare-bytes l h {b} e = let x : BareBytes (bare b) = rw e at (header-bytes l h) in x
+bare-bytes l h {b} e =
+    rw (bare-in l e .value)
+    (bytes-take (length (b .bytes)) (drop (length l - b .left - length (b .bytes)) l)
+    (bytes-drop (length l - b .left - length (b .bytes)) l h))
 
 -- what a packet means is what its header says
 pub heard-is : (l : List ℕ) → heard l ≡ cameMeans (headerRead l)

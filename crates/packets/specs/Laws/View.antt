@@ -6,15 +6,13 @@ use mathlib.Core.Path.{_≡_, refl, sym, _∙_, ap}
 use mathlib.Core.Bool.{Bool}
 use mathlib.Core.List.{List, [], _∷_}
 use mathlib.Core.Option.{some}
-use lib.ListN.{length, take, drop, getD, length-drop}
-use lib.Seq.{take-all, drop-drop, getD-take, getD-drop}
+use lib.ListN.{length, take, drop, getD}
+use lib.Seq.{getD-take, getD-drop}
 use borrow.Author.Tests.{eqb-true}
 use native.Mathlib.Nat.{zero-add, add-zero}
 use native.Mathlib.Omega.{arith}
 use Rattle.laws.specs.Pick.{pick}
 use Rattle.wire.specs.Number.{big, isWhole}
-use Rattle.wire.specs.Element.{elem, element}
-use Rattle.wire.specs.Laws.Within.{ElementWithin, element-within}
 use Rattle.grammar.specs.declared.Place.{Place}
 use Rattle.grammar.specs.Types.{interest, dat}
 use Rattle.grammar.specs.Table.{table, fits, one}
@@ -32,24 +30,10 @@ use Rattle.packets.specs.Places.Bare.{hopIn, interestIn, packetIn}
 use Rattle.packets.specs.Bare as bare
 use Rattle.packets.specs.Meaning.{refused, asks, brings, nacks, hopOf, askOf, offerOf, leaving, meant, heardBare}
 use Rattle.packethead.specs.Laws.Part.{part-field}
-use Rattle.packets.specs.Laws.Shape.{IsInterest, IsData, asks-made, brings-made, nacks-made}
+use Rattle.packets.specs.Laws.Shape.{IsInterest, IsData, last-in, asks-made, brings-made, nacks-made}
 use Rattle.packets.specs.Places.View.{hopSeen, askSeen, lowered, seen}
 
 -- ---- a field in the whole packet
-
--- a field that stands in the value of the last element stands in the whole
-last-in : (l : List ℕ) {t : ℕ} {v : List ℕ} {x : Field} → element l ≡ elem t v [] → FieldIn v x → FieldIn l x
-last-in l {t} {v} {x} e h =
-    let w : ElementWithin l t v [] = element-within l e in
-    let n : length l ≡ w .head + length v = omega (arith, w .fits, ap length (w .rest), length-drop (w .head + length v) l) in
-    let d : v ≡ drop (w .head) l = w .value ∙ take-all (length v) (drop (w .head) l) (omega (arith, length-drop (w .head) l)) in
-    record {
-      fits = λ q. omega (arith, h .fits q);
-      value = λ {v = u} {k = k} q.
-          let a : w .head + (length v - k - length u) ≡ length l - k - length u = omega (arith, h .fits q) in
-          h .value q ∙ ap (λ (z : List ℕ). take (length u) (drop (length v - k - length u) z)) d
-          ∙ rw (drop-drop (length v - k - length u) (w .head) l, a);
-    }
 
 -- b are the bytes at a place of l, which lies within l
 pub record BytesAt (l : List ℕ) (p : Place) (b : List ℕ) : Type 0 where

@@ -2,14 +2,16 @@
 -- here.
 -- Assumes nothing.
 use Prim.Native.Nat.{ℕ, suc, _+_, _-_, _≤_, _<_, min}
-use mathlib.Core.Path.{_≡_, refl, ap, _∙_}
-use mathlib.Core.Bool.{Bool}
+use mathlib.Core.Path.{_≡_, refl, sym, ap, _∙_}
+use mathlib.Core.Bool.{Bool, true, false}
 use mathlib.Core.List.{List, [], _∷_, _++_}
-use mathlib.Core.Option.{Option, none, some}
+use mathlib.Core.Option.{Option, none, some, Option·none-ne-some, Option·some-injective}
 use native.Mathlib.Omega.{arith}
 use native.Mathlib.Nat.{zero-add}
 use lib.ListN.{length, getD, set, take, drop}
 use lib.Seq.{getD-set-same, getD-set-other, drop-cons}
+use lib.Dec.{ltb}
+use borrow.Author.Tests.{ltb-true, ltb-false}
 use denote.Ref.{now}
 use Rattle.sizes.specs.Sizes.{mostStored}
 use Rattle.rows.specs.Lent.{Lent}
@@ -94,6 +96,17 @@ module _ (packets heads : List (List ℕ)) (s : Store) where
   -- past the last there is no Data
   pub view-past : (i : ℕ) → min (s .count) mostStored ≤ i → atPlace i (view packets heads s) ≡ none
   view-past i h = place-past (view packets heads s) i (omega (arith, view-length packets heads s))
+
+  -- a Data's name is where it stands in its bytes
+  pub view-name : (i : ℕ) (d : Stored) → atPlace i (view packets heads s) ≡ some d → d .name ≡ nameOf (d .bytes)
+  unfolding storedAt storedOf dataOf
+  view-name i d e = go (ltb i (min (s .count) mostStored)) refl
+    where
+      go : (b : Bool) → ltb i (min (s .count) mostStored) ≡ b → d .name ≡ nameOf (d .bytes)
+      go true q =
+          let own : d ≡ storedAt packets heads i = Option·some-injective _ _ (sym e ∙ view-at i (ltb-true _ _ q)) in
+          rw own
+      go false q = absurd (Option·none-ne-some d (sym (view-past i (ltb-false _ _ q)) ∙ e))
 
   -- counts that are the same up to the size show the same Data
   pub view-count : (n : Store) → min (s .count) mostStored ≡ min (n .count) mostStored → view packets heads s ≡ view packets heads n

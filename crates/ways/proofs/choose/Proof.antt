@@ -16,8 +16,8 @@ cheapest-requires : tie.Need-cheapest-requires
 cheapest-requires c κs = search needs
 
 returns : tie.Need-returns
-returns c = λ p e y z.
-    chosen-first mostFaces p e _ y _ z _ _ _ _ _ _ _ _ (c .before .before .before .longest .ensures) (c .before .before .unsent .ensures)
+returns c = λ p y.
+    chosen-first mostFaces p _ y _ _ _ _ _ _ _ _ (c .before .before .before .longest .ensures) _ (c .before .before .unsent .ensures)
     (c .before .cheapest .ensures) (c .if1 .taken)
 
 hops-of-requires : tie.Need-hops-of-requires
@@ -30,10 +30,10 @@ earliest-requires : tie.Need-earliest-requires
 earliest-requires c κs = search needs
 
 returns-2 : tie.Need-returns-2
-returns-2 c = λ p e y z.
-    chosen-last mostFaces p e _ y _ z _ _ _ _ _ _ _ _ (c .before .before .before .before .before .before .longest .ensures)
+returns-2 c = λ p y.
+    chosen-last mostFaces p _ y _ _ _ _ _ _ _ _ (c .before .before .before .before .before .before .longest .ensures) _
     (c .before .before .before .before .before .unsent .ensures) (c .before .before .before .before .cheapest .ensures) _ _ _
-    (view-wide mostFaces _ _ _ _ _ _ e z .1) (c .before .before .before .if1 .left) (c .before .before .hops-of .ensures)
+    (λ e z. view-wide mostFaces _ _ _ _ _ _ e z .1) (c .before .before .before .if1 .left) (c .before .before .hops-of .ensures)
     (c .before .common .ensures) (c .earliest .ensures)
 
 pub choose-spec : {M : Type 1} → statement M

@@ -2,7 +2,7 @@
 use borrow.Author.Needs.{needs}
 use Rattle.sizes.specs.Sizes.{mostFaces}
 use Rattle.pending_table.specs.Places.View.{view-wide}
-use Rattle.ways.specs.Laws.Local.{local-said}
+use Rattle.ways.specs.Laws.Local.{local-held}
 use Rattle.ways.proofs.is_from_local.Statement.{statement}
 use Rattle.ways.proofs.is_from_local.Tie as tie
 
@@ -16,8 +16,8 @@ common-requires : tie.Need-common-requires
 common-requires c κs = search needs
 
 returns : tie.Need-returns
-returns c = λ n e x y.
-    local-said mostFaces n e _ _ _ _ _ x y (view-wide mostFaces _ _ _ _ _ _ e y .0) (c .before .before .asking-faces .ensures)
+returns c = λ n x.
+    local-held mostFaces n _ _ _ _ _ x (λ e y. view-wide mostFaces _ _ _ _ _ _ e y .0) (c .before .before .asking-faces .ensures)
     (c .before .all-local .ensures) (c .common .ensures)
 
 pub is-from-local-spec : {M : Type 1} → statement M

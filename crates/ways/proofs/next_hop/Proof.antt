@@ -9,7 +9,7 @@ is-suppressed-requires : tie.Need-is-suppressed-requires
 is-suppressed-requires c κs = search needs
 
 returns : tie.Need-returns
-returns c = λ n a e x u y v z w. resends-none _ n a e _ w _ (c .before .is-suppressed .ensures) (c .if1 .taken)
+returns c = λ n a x u y v z. resends-none _ n a _ _ (c .before .is-suppressed .ensures) (c .if1 .taken)
 
 is-from-local-requires : tie.Need-is-from-local-requires
 is-from-local-requires c κs = search needs
@@ -21,10 +21,10 @@ choose-requires : tie.Need-choose-requires
 choose-requires c κs = search needs
 
 returns-2 : tie.Need-returns-2
-returns-2 c = λ n a e x u y v z w.
-    resends-next _ n a e _ w _ (c .before .before .before .before .is-suppressed .ensures) _ _ _ _ u v
-    (c .before .before .before .if1 .left) (c .before .before .is-from-local .ensures n e x w)
-    (c .choose .ensures (eligible n a _) e (c .before .eligible .ensures n a x y z v) w)
+returns-2 c = λ n a x u y v z.
+    resends-next _ n a _ _ (c .before .before .before .before .is-suppressed .ensures) _ _ _ _ u v
+    (c .before .before .before .if1 .left) (c .before .before .is-from-local .ensures n x)
+    (c .choose .ensures (eligible n a _) (c .before .eligible .ensures n a x y z v))
 
 pub next-hop-spec : {M : Type 1} → statement M
 next-hop-spec = tie.close (tie.spec is-suppressed-requires returns is-from-local-requires eligible-requires choose-requires returns-2)

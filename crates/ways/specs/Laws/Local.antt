@@ -1,7 +1,7 @@
 -- Whether some request of an entry is from a local face: the set of the faces that ask and are local has one.
 -- Assumes nothing.
 use Prim.Native.Nat.{ℕ, zero, suc, _+_, _-_, _≤_, _<_}
-use mathlib.Core.Path.{_≡_, refl, sym, _∙_}
+use mathlib.Core.Path.{_≡_, refl, sym, ap, _∙_}
 use mathlib.Core.Bool.{Bool, true, false, _&&_, _||_, not, true≢false, and-false}
 use mathlib.Core.List.{List, [], _∷_}
 use mathlib.Core.Option.{Option, none, some}
@@ -11,13 +11,13 @@ use lib.Dec.{eqb}
 use lib.Pow.{pow-pos}
 use borrow.Author.Tests.{eq-eqb, ne-eqb}
 use Rattle.laws.specs.Laws.Digits.{member-no, digit-zero}
-use Rattle.records.specs.Slots.{slot, isSome, given, held, heldFrom, anyOf}
+use Rattle.records.specs.Slots.{slot, isSome, given, holds, held, heldFrom, anyOf}
 use Rattle.records.specs.Face.{Face, isFace, isLocalFace}
 use Rattle.records.specs.Laws.Face.{face-yes}
 use Rattle.records.specs.Laws.Slot.{slot-at}
 use Rattle.records.specs.Entry.{Entry}
 use Rattle.faces.specs.Set.{hasFace, facesWhere}
-use Rattle.faces.specs.Laws.Set.{where-has, where-is}
+use Rattle.faces.specs.Laws.Set.{where-has, where-is, where-ext}
 use Rattle.faces.specs.Laws.Where.{where-both}
 use Rattle.pending_entry.specs.Operations.{askingFaces}
 use Rattle.rules.specs.Node.{Node}
@@ -96,7 +96,7 @@ module _ {A : Type 0} (q : ℕ → Bool) where
       go false e = rw (eq-eqb (facesWhere n p) 0 (none-set e)) (sym e)
 
 -- whether a request of an entry is from a local face is told by the set of the faces that ask and are local
-pub local-said : (m : ℕ) (n : Node) (e : Entry) (o : Option Entry) (fs : List (Option Face)) (s k c : ℕ) → n .faces ≡ fs → o ≡ some e
+local-said : (m : ℕ) (n : Node) (e : Entry) (o : Option Entry) (fs : List (Option Face)) (s k c : ℕ) → n .faces ≡ fs → o ≡ some e
     → length (e .requests) ≡ m → s ≡ given 0 (askingFaces m) o → k ≡ facesWhere m (isLocalFace fs)
     → c ≡ facesWhere m (λ f. hasFace m s f && hasFace m k f) → not (eqb c 0) ≡ fromLocalFace n e
 unfolding fromLocalFace askingFaces given
@@ -104,3 +104,17 @@ local-said m n e o fs s k c x y l a b d =
     let z : c ≡ facesWhere m (λ f. isSome (slot f (e .requests)) && isLocalFace fs f) =
     d ∙ rw (a, b, y) (where-both m (λ f. isSome (slot f (e .requests))) (isLocalFace fs)) in
     rw (z, x) (where-any (isLocalFace fs) m (e .requests) l)
+
+-- the set of no face is the number 0
+pub where-nothing : (m : ℕ) → 0 ≡ facesWhere m (λ _. false)
+where-nothing m = where-is m 0 (λ _. false) (pow-pos m) (λ f _. has-zero m f)
+
+-- and so it is told of an entry or none
+pub local-held : (m : ℕ) (n : Node) (o : Option Entry) (fs : List (Option Face)) (s k c : ℕ) → n .faces ≡ fs
+    → ((e : Entry) → o ≡ some e → length (e .requests) ≡ m) → s ≡ given 0 (askingFaces m) o → k ≡ facesWhere m (isLocalFace fs)
+    → c ≡ facesWhere m (λ f. hasFace m s f && hasFace m k f) → not (eqb c 0) ≡ holds (fromLocalFace n) o
+unfolding given holds
+local-held m n none fs s k c x l a b d =
+    let z : c ≡ 0 = d ∙ where-ext m _ (λ _. false) (λ f _. rw (a, has-zero m f)) ∙ sym (where-nothing m) in
+    ap not (eq-eqb c 0 z)
+local-held m n (some e) fs s k c x l a b d = local-said m n e (some e) fs s k c x refl (l e refl) a b d

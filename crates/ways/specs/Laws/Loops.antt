@@ -1,17 +1,18 @@
 -- "LOOP: a live fingerprint equals this one; or the entry has the nonce", as the code asks it.
 -- Assumes nothing.
 use Prim.Native.Nat.{ℕ}
-use mathlib.Core.Path.{_≡_, refl, sym, ap, _∙_}
+use mathlib.Core.Path.{_≡_, refl, sym, _∙_}
 use mathlib.Core.Bool.{Bool, true, false, _&&_}
 use mathlib.Core.List.{List}
 use mathlib.Core.Option.{Option, none, some}
 use Rattle.names.specs.Fingerprint.{fnvStart, fingerprint}
-use Rattle.records.specs.Slots.{atPlace, holds, given}
+use Rattle.records.specs.Slots.{holds, given}
 use Rattle.records.specs.Face.{Face, isPeer}
 use Rattle.records.specs.Entry.{Entry, hasNonce, ownNonce}
 use Rattle.records.specs.Line.{Line, isDead}
 use Rattle.rules.specs.Node.{Node, printOf}
-use Rattle.rules.specs.Interest.{Arrival, entryOf, entryLoops, loops}
+use Rattle.rules.specs.Interest.{Arrival, entryLoops}
+use Rattle.ways.specs.Ways.{loopsBy}
 
 module _ (fs : List (Option Face)) (f k : ℕ) (o : Option Entry) (p : Bool) (a : p ≡ isPeer fs f) where
   -- the own nonce on a face that is not point-to-point
@@ -54,22 +55,18 @@ module _ (n : Node) (a : Arrival) (fs : List (Option Face)) (f k : ℕ) (o : Opt
       go (some e) b d = rw (x, y, z, sym b ∙ q) d
 
 module _ (t : ℕ) (n : Node) (a : Arrival) (ls : List Line) (name : List ℕ) (k print : ℕ) (x : n .dead ≡ ls) (y : a .ask .name ≡ name)
-    (z : a .ask .nonce ≡ k) (w : print ≡ fingerprint fnvStart name k) (d : Bool) (b : d ≡ isDead t print ls) where
+    (z : a .ask .nonce ≡ k) (w : print ≡ fingerprint fnvStart name k) (d : Bool) (b : d ≡ isDead t print ls) (o : Option Entry) where
   -- whether a live fingerprint is that of the Interest
   dead-is : isDead t (printOf (a .ask .name) (a .ask .nonce)) (n .dead) ≡ d
   unfolding printOf
   dead-is = rw (x, y, z, sym w) (sym b)
 
   -- one that is makes it loop
-  pub loops-dead : d ≡ true → true ≡ loops t n a
-  unfolding loops
+  pub loops-dead : d ≡ true → true ≡ loopsBy t n a o
+  unfolding loopsBy
   loops-dead q = rw (dead-is ∙ q)
 
   -- without one it loops by its entry
-  pub loops-entry : (es : List Entry) (i : ℕ) (r : Bool) → n .pending ≡ es → i ≡ entryOf n (a .ask) → d ≡ false
-      → r ≡ holds (entryLoops n a) (atPlace i es) → r ≡ loops t n a
-  unfolding loops
-  loops-entry es i r p u q v =
-      let same : atPlace i es ≡ atPlace (entryOf n (a .ask)) (n .pending) =
-      ap (λ (j : ℕ). atPlace j es) u ∙ ap (atPlace (entryOf n (a .ask))) (sym p) in
-      rw (dead-is ∙ q) (v ∙ ap (holds (entryLoops n a)) same)
+  pub loops-entry : (r : Bool) → d ≡ false → r ≡ holds (entryLoops n a) o → r ≡ loopsBy t n a o
+  unfolding loopsBy
+  loops-entry r q v = rw (dead-is ∙ q) v

@@ -11,7 +11,7 @@ use lib.Dec.{eqb}
 use borrow.Author.Tests.{eq-eqb, ne-eqb}
 use Rattle.laws.specs.Pick.{pick}
 use Rattle.laws.specs.Laws.Pick.{pick-yes, pick-no}
-use Rattle.records.specs.Slots.{slot, isSome, given, orElse, atPlace, held, only, leastBy, leastFace}
+use Rattle.records.specs.Slots.{slot, isSome, given, holds, orElse, atPlace, held, only, leastBy, leastFace}
 use Rattle.records.specs.Route.{Route, longest, cheapestOf}
 use Rattle.records.specs.Entry.{Entry, earliestOf, isSuppressed}
 use Rattle.faces.specs.Set.{hasFace, facesWhere}
@@ -26,7 +26,9 @@ use Rattle.pending_entry.specs.Operations.{unsentOf}
 use Rattle.pending_entry.specs.Laws.Bridge.{earliest-where}
 use Rattle.rules.specs.Node.{Node}
 use Rattle.rules.specs.Interest.{Arrival, eligible, fromLocalFace, nextHop, resends}
-use Rattle.ways.specs.Laws.Local.{has-zero}
+use Rattle.ways.specs.Ways.{resendsBy}
+use Rattle.ways.specs.Places.Next.{nextOf}
+use Rattle.ways.specs.Laws.Local.{has-zero, where-nothing}
 
 -- the hop's face, 0 where there is none
 abbrev pub faceOr0 : Option ℕ → ℕ
@@ -42,6 +44,12 @@ only-none (a ∷ l) = only-none l
 earliest-none : (e : Entry) → earliestOf (λ _. false) e ≡ none
 unfolding earliestOf leastFace leastBy given
 earliest-none e = rw (only-none (held (e .sent)))
+
+-- nor is one the cheapest hop
+cheapest-none : (o : Option Route) → given none (cheapestOf (λ _. false)) o ≡ none
+unfolding given cheapestOf leastFace leastBy
+cheapest-none none = refl
+cheapest-none (some r) = rw (only-none (held (r .hops)))
 
 module _ (m : ℕ) (p : ℕ → Bool) (e : Entry) (may : ℕ) (y : may ≡ facesWhere m p) where
   -- whether p holds of a face without an out-record
@@ -85,37 +93,68 @@ module _ (m : ℕ) (p : ℕ → Bool) (e : Entry) (may : ℕ) (y : may ≡ faces
     first-is = w ∙ rw (unsent-is x u z q, l) (ap faceOr0 (longest-cheapest m fresh prefixes settings costs s name))
 
     -- "the cheapest eligible hop without an out-record"
-    pub chosen-first : (f ≡ 0 → ⊥) → f ≡ faceOr0 (given none (nextHop p e) (longest name (viewFor m prefixes settings costs s)))
-    chosen-first k = first-taken _ f first-is (ne-eqb f 0 k)
+    there-first : (f ≡ 0 → ⊥) → f ≡ faceOr0 (given none (nextHop p e) (longest name (viewFor m prefixes settings costs s)))
+    there-first k = first-taken _ f first-is (ne-eqb f 0 k)
 
     -- "failing that, the eligible hop with the earliest one"
-    pub chosen-last : (h c t : ℕ) → length (e .sent) ≡ m → f ≡ 0
+    there-last : (h c t : ℕ) → length (e .sent) ≡ m → f ≡ 0
         → h ≡ given 0 (hopsOf m) (atPlace i (viewFor m prefixes settings costs s))
         → c ≡ facesWhere m (λ g. hasFace m h g && hasFace m may g)
         → t ≡ given 0 (λ e. faceOr0 (earliestOf (hasFace m c) e)) x
         → t ≡ faceOr0 (given none (nextHop p e) (longest name (viewFor m prefixes settings costs s)))
     unfolding given
-    chosen-last h c t a k b d v =
+    there-last h c t a k b d v =
         last-taken (longest name (viewFor m prefixes settings costs s)) f h c t a first-is (eq-eqb f 0 k)
         (b ∙ ap (given 0 (hopsOf m)) (ap (λ (j : ℕ). atPlace j (viewFor m prefixes settings costs s)) l ∙ longest-place name _)) d
         (v ∙ rw z)
 
-module _ (t : ℕ) (n : Node) (a : Arrival) (e : Entry) (o : Option Entry) (x : o ≡ some e) (b : Bool)
-    (y : b ≡ given false (isSuppressed t) o) where
+module _ (m : ℕ) (p : ℕ → Bool) (may : ℕ) (y : may ≡ facesWhere m p) (prefixes settings costs : List (List ℕ)) (s : Routes)
+    (name : List ℕ) (i u f : ℕ) (l : i ≡ longestAt name (viewFor m prefixes settings costs s)) where
+  -- of no faces the cheapest hop is none
+  none-first : u ≡ 0 → f ≡ faceOr0 (given none (cheapestOf (hasFace m u)) (atPlace i (viewFor m prefixes settings costs s))) → f ≡ 0
+  unfolding given
+  none-first q w =
+      w ∙ rw (q ∙ where-nothing m, l)
+      (ap faceOr0 (longest-cheapest m (λ _. false) prefixes settings costs s name ∙ cheapest-none (longest name _)))
+
+  -- the cheapest hop without an out-record, of an entry or none
+  pub chosen-first : (x : Option Entry) → u ≡ given 0 (unsentOf m may) x
+      → f ≡ faceOr0 (given none (cheapestOf (hasFace m u)) (atPlace i (viewFor m prefixes settings costs s))) → (f ≡ 0 → ⊥)
+      → f ≡ faceOr0 (nextOf p (longest name (viewFor m prefixes settings costs s)) x)
+  unfolding nextOf given
+  chosen-first none q w k = absurd (k (none-first q w))
+  chosen-first (some e) q w k = there-first m p e may y (some e) refl prefixes settings costs s name i u f l q w k
+
+  -- failing that, the hop with the earliest one, of an entry or none
+  pub chosen-last : (x : Option Entry) → u ≡ given 0 (unsentOf m may) x
+      → f ≡ faceOr0 (given none (cheapestOf (hasFace m u)) (atPlace i (viewFor m prefixes settings costs s))) → (h c t : ℕ)
+      → ((e : Entry) → x ≡ some e → length (e .sent) ≡ m) → f ≡ 0
+      → h ≡ given 0 (hopsOf m) (atPlace i (viewFor m prefixes settings costs s))
+      → c ≡ facesWhere m (λ g. hasFace m h g && hasFace m may g)
+      → t ≡ given 0 (λ e. faceOr0 (earliestOf (hasFace m c) e)) x
+      → t ≡ faceOr0 (nextOf p (longest name (viewFor m prefixes settings costs s)) x)
+  unfolding nextOf given
+  chosen-last none q w h c t a k b d v = v
+  chosen-last (some e) q w h c t a k b d v =
+      there-last m p e may y (some e) refl prefixes settings costs s name i u f l q w h c t (a e refl) k b d v
+
+module _ (t : ℕ) (n : Node) (a : Arrival) (b : Bool) where
   -- "If the newest out-record was sent under 100 ms ago, send nothing."
-  pub resends-none : b ≡ true → 0 ≡ faceOr0 (resends t n a e)
-  unfolding resends given pick
-  resends-none q =
-      let z : isSuppressed t e ≡ true = rw x at (sym y ∙ q) in
+  pub resends-none : (o : Option Entry) → b ≡ given false (isSuppressed t) o → b ≡ true → 0 ≡ faceOr0 (resendsBy t n a o)
+  unfolding resendsBy resends given pick
+  resends-none none y q = refl
+  resends-none (some e) y q =
+      let z : isSuppressed t e ≡ true = sym y ∙ q in
       rw z
 
   -- "Otherwise, in the longest matching route"
-  pub resends-next : (l : Bool) (r : ℕ) (rs : List Route) (name : List ℕ) → n .routes ≡ rs → a .ask .name ≡ name → b ≡ false
-      → l ≡ fromLocalFace n e → r ≡ faceOr0 (given none (nextHop (eligible n a l) e) (longest name rs))
-      → r ≡ faceOr0 (resends t n a e)
-  unfolding resends given pick
-  resends-next l r rs name u v q w d =
-      let z : isSuppressed t e ≡ false = rw x at (sym y ∙ q) in
+  pub resends-next : (o : Option Entry) → b ≡ given false (isSuppressed t) o → (l : Bool) (r : ℕ) (rs : List Route) (name : List ℕ)
+      → n .routes ≡ rs → a .ask .name ≡ name → b ≡ false → l ≡ holds (fromLocalFace n) o
+      → r ≡ faceOr0 (nextOf (eligible n a l) (longest name rs) o) → r ≡ faceOr0 (resendsBy t n a o)
+  unfolding resendsBy nextOf resends given holds pick
+  resends-next none y l r rs name u v q w d = d
+  resends-next (some e) y l r rs name u v q w d =
+      let z : isSuppressed t e ≡ false = sym y ∙ q in
       let same : longest name rs ≡ longest (a .ask .name) (n .routes) =
       ap (λ (k : List ℕ). longest k rs) (sym v) ∙ ap (longest (a .ask .name)) (sym u) in
       rw z

@@ -1,0 +1,1 @@
+// The demands carried to the code: what any sequence of calls shows. This crate has no code: everything is in specs/.

@@ -1,5 +1,0 @@
-pub mod Prefix
-pub mod Faces
-pub mod Routes
-pub mod Comes
-pub mod Closing

@@ -1,0 +1,2 @@
+pub mod Nacks
+pub mod Turns

@@ -1,0 +1,4 @@
+pub mod Prefix
+pub mod Faces
+pub mod Routes
+pub mod Comes

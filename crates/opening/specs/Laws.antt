@@ -1,0 +1,5 @@
+pub mod Checks
+pub mod Refused
+pub mod Opened
+pub mod Routed
+pub mod Same

@@ -1,0 +1,9 @@
+pub mod Event
+pub mod Seen
+pub mod Length
+pub mod Form
+pub mod Written
+pub mod Only
+pub mod Inside
+pub mod Walk
+pub mod Cases

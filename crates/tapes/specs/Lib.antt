@@ -1,0 +1,4 @@
+pub mod Tape
+pub mod Seen
+pub mod Places
+pub mod Laws
