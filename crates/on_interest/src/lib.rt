@@ -8,6 +8,7 @@ use event::Came;
 use event::Small;
 use happenings::Fate;
 use happenings::Rows;
+use names::FNV_START;
 use opening::refused;
 use opening::route;
 use packethead::find_name;
@@ -298,6 +299,7 @@ fn see(
         numbers,
         lines,
         small,
+        FNV_START,
         h,
         face,
         name,

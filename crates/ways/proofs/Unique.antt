@@ -70,12 +70,12 @@ loops-one κs a x y s t p q =
       dead = dead.view (now (a .1 .1 .1 .1 .0)) (small .ring);
     } in
     let i : Arrival = record {
-      face = a .1 .1 .1 .1 .1 .1 .1 .0;
+      face = a .1 .1 .1 .1 .1 .1 .1 .1 .0;
       ask = record {
-        name = now (a .1 .1 .1 .1 .1 .1 .1 .1 .0);
+        name = now (a .1 .1 .1 .1 .1 .1 .1 .1 .1 .0);
         canBePrefix = false;
         mustBeFresh = false;
-        nonce = a .1 .1 .1 .1 .1 .1 .1 .1 .1 .0;
+        nonce = a .1 .1 .1 .1 .1 .1 .1 .1 .1 .1 .0;
         lifetime = 0;
         hop = none;
       };

@@ -160,6 +160,7 @@ pub fn loops(
     numbers: &Numbers,
     lines: &Lines,
     small: Small,
+    start: u64,
     h: Handle,
     face: usize,
     name: &[u8],
@@ -167,12 +168,12 @@ pub fn loops(
 ) -> bool
     ensures { λ r. ⌜ ((n : Node) (a : Arrival) → n .faces ≡ view (small .faces)
         → n .dead ≡ dead.before lines (small .ring) → a .face ≡ face → a .ask .name ≡ now (name .entry) → a .ask .nonce ≡ nonce
-        → r ≡ loopsBy (small .time) n a (entryAt names heads recs numbers (small .pending) h)) ⌝ }
+        → r ≡ loopsBy start (small .time) n a (entryAt names heads recs numbers (small .pending) h)) ⌝ }
 {
     let s = small.pending;
     let faces = small.faces;
     let ring = small.ring;
-    let print = names::fingerprint_from(names::FNV_START, name, nonce);
+    let print = names::fingerprint_from(start, name, nonce);
     if dead::is_dead(lines, ring, small.time, print) {
         return true;
     }

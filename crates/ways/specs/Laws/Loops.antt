@@ -5,12 +5,12 @@ use mathlib.Core.Path.{_≡_, refl, sym, _∙_}
 use mathlib.Core.Bool.{Bool, true, false, _&&_}
 use mathlib.Core.List.{List}
 use mathlib.Core.Option.{Option, none, some}
-use Rattle.names.specs.Fingerprint.{fnvStart, fingerprint}
+use Rattle.names.specs.Fingerprint.{fingerprint}
 use Rattle.records.specs.Slots.{holds, given}
 use Rattle.records.specs.Face.{Face, isPeer}
 use Rattle.records.specs.Entry.{Entry, hasNonce, ownNonce}
 use Rattle.records.specs.Line.{Line, isDead}
-use Rattle.rules.specs.Node.{Node, printOf}
+use Rattle.rules.specs.Node.{Node}
 use Rattle.rules.specs.Interest.{Arrival, entryLoops}
 use Rattle.ways.specs.Ways.{loopsBy}
 
@@ -54,19 +54,18 @@ module _ (n : Node) (a : Arrival) (fs : List (Option Face)) (f k : ℕ) (o : Opt
       go none b d = d
       go (some e) b d = rw (x, y, z, sym b ∙ q) d
 
-module _ (t : ℕ) (n : Node) (a : Arrival) (ls : List Line) (name : List ℕ) (k print : ℕ) (x : n .dead ≡ ls) (y : a .ask .name ≡ name)
-    (z : a .ask .nonce ≡ k) (w : print ≡ fingerprint fnvStart name k) (d : Bool) (b : d ≡ isDead t print ls) (o : Option Entry) where
+module _ (start t : ℕ) (n : Node) (a : Arrival) (ls : List Line) (name : List ℕ) (k print : ℕ) (x : n .dead ≡ ls) (y : a .ask .name ≡ name)
+    (z : a .ask .nonce ≡ k) (w : print ≡ fingerprint start name k) (d : Bool) (b : d ≡ isDead t print ls) (o : Option Entry) where
   -- whether a live fingerprint is that of the Interest
-  dead-is : isDead t (printOf (a .ask .name) (a .ask .nonce)) (n .dead) ≡ d
-  unfolding printOf
+  dead-is : isDead t (fingerprint start (a .ask .name) (a .ask .nonce)) (n .dead) ≡ d
   dead-is = rw (x, y, z, sym w) (sym b)
 
   -- one that is makes it loop
-  pub loops-dead : d ≡ true → true ≡ loopsBy t n a o
+  pub loops-dead : d ≡ true → true ≡ loopsBy start t n a o
   unfolding loopsBy
   loops-dead q = rw (dead-is ∙ q)
 
   -- without one it loops by its entry
-  pub loops-entry : (r : Bool) → d ≡ false → r ≡ holds (entryLoops n a) o → r ≡ loopsBy t n a o
+  pub loops-entry : (r : Bool) → d ≡ false → r ≡ holds (entryLoops n a) o → r ≡ loopsBy start t n a o
   unfolding loopsBy
   loops-entry r q v = rw (dead-is ∙ q) v
