@@ -1,0 +1,29 @@
+-- `store_mark` meets its contract: it is one store.
+-- Assumes nothing.
+use borrow.Author.Needs.{needs}
+use Rattle.lines.specs.Lines.{mark}
+use Rattle.lines.specs.Laws.Put.{stored-byte}
+use Rattle.lines.proofs.store_mark.Statement.{statement}
+use Rattle.lines.proofs.store_mark.Tie as tie
+
+slice-write-out : tie.Need-slice-write-out
+slice-write-out c = search needs
+
+add-result : tie.Need-add-result
+add-result c = search needs
+
+same-length : tie.Need-same-length
+same-length c = search needs
+
+returns : tie.Need-returns
+unfolding mark
+returns c = stored-byte _ _ _
+
+pub store-mark-spec : {M : Type 1} → statement M
+store-mark-spec =
+    tie.close
+    (tie.spec
+    slice-write-out
+    add-result
+    same-length
+    returns)
