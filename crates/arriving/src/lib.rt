@@ -2,6 +2,7 @@
 #![tactic(auto)]
 
 ghost use Rattle.std.specs.Prelude.{length};
+ghost use Rattle.rows.specs.Lent.{lent, shown};
 ghost use Rattle.event.specs.Memory.{memory, output};
 ghost use Rattle.coming.specs.Goes.{After};
 ghost use Rattle.arriving.specs.Coming.{comes_in};
@@ -39,7 +40,8 @@ pub fn arrive(
     bare: &[u8],
 ) -> Came
     ensures { After (comes_in (length out.old) nacked marked bare.now face) made result
-        (memory small result.small prefixes settings costs names heads recs numbers packets uses lines) (output sends out rows) }
+        (memory small result.small (shown prefixes) (shown settings) (shown costs) (lent names) (lent heads) (lent recs) (lent numbers)
+        (lent packets) (lent uses) (lent lines)) (output (lent sends) (lent out) (lent rows)) }
 {
     // A name over its size is the reader's to refuse.
     let said = guard(small.time, out.len(), bare.len(), 0);

@@ -4,6 +4,7 @@
 ghost use Rattle.std.specs.Prelude.{ℕ, ◌≡◌, List, [], length};
 ghost use Rattle.sizes.specs.Sizes.{most_dead};
 ghost use Rattle.records.specs.Line.{joined, counts, is_dead};
+ghost use Rattle.rows.specs.Lent.{lent, shown};
 ghost use Rattle.dead.specs.Places.View.{line, line_of, line_count, view, before, after};
 
 use rows::clamped;
@@ -42,8 +43,8 @@ fn has_all_rows(lines: Lines)
 
 // A line joins: "the 257th overwrites the oldest".
 pub fn join(lines: &mut Lines, ring: Ring, print: u64, time: u64) -> Ring
-    ensures result_value { after lines result ≡ joined most_dead (before lines ring) (line print time) }
-    ensures result_value_2 { line_count result ≡ length (after lines result) }
+    ensures result_value { after (lent lines) result ≡ joined most_dead (before (lent lines) ring) (line print time) }
+    ensures result_value_2 { line_count result ≡ length (after (lent lines) result) }
 {
     has_all_rows(*lines);
     let at = ring.at % DEAD;
@@ -80,7 +81,7 @@ fn is_live(row: &[u64; 2], time: u64, print: u64) -> bool
 
 // Whether a fingerprint is live: "A line counts while now minus its time is under 6,000."
 pub fn is_dead(lines: &Lines, ring: Ring, time: u64, print: u64) -> bool
-    ensures { result ≡ is_dead time print (before lines ring) }
+    ensures { result ≡ is_dead time print (before (shown lines) ring) }
 {
     let n = clamped(ring.count, DEAD);
     let mut k: usize = 0;

@@ -41,37 +41,37 @@ abbrev pub memory : Small → Small → Lent Table → Lent Table → Lent Table
 memory s s' p g c n h r m k u l = record {
   entry = record {
     small = s;
-    prefixes = p.entry.now;
-    settings = g.entry.now;
-    costs = c.entry.now;
-    names = n.entry.now;
-    heads = h.entry.now;
-    recs = r.entry.now;
-    numbers = m.entry.now;
-    packets = k.entry.now;
-    uses = u.entry.now;
-    lines = l.entry.now;
+    prefixes = p.entry;
+    settings = g.entry;
+    costs = c.entry;
+    names = n.entry;
+    heads = h.entry;
+    recs = r.entry;
+    numbers = m.entry;
+    packets = k.entry;
+    uses = u.entry;
+    lines = l.entry;
   };
   exit = record {
     small = s';
-    prefixes = p.exit.now;
-    settings = g.exit.now;
-    costs = c.exit.now;
-    names = n.exit.now;
-    heads = h.exit.now;
-    recs = r.exit.now;
-    numbers = m.exit.now;
-    packets = k.exit.now;
-    uses = u.exit.now;
-    lines = l.exit.now;
+    prefixes = p.exit;
+    settings = g.exit;
+    costs = c.exit;
+    names = n.exit;
+    heads = h.exit;
+    recs = r.exit;
+    numbers = m.exit;
+    packets = k.exit;
+    uses = u.exit;
+    lines = l.exit;
   };
 }
 
 -- the output at entry and at exit
 abbrev pub output : Lent Table → Lent (List ℕ) → Lent Table → Both Output Output
 output s b r = record {
-  entry = record { sends = s.entry.now; buffer = b.entry.now; rows = r.entry.now };
-  exit = record { sends = s.exit.now; buffer = b.exit.now; rows = r.exit.now };
+  entry = record { sends = s.entry; buffer = b.entry; rows = r.entry };
+  exit = record { sends = s.exit; buffer = b.exit; rows = r.exit };
 }
 
 -- the node that a memory means: each table through its view

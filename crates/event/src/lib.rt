@@ -7,6 +7,7 @@ ghost use Rattle.names.specs.Fingerprint.{fingerprint};
 ghost use Rattle.records.specs.Face.{is_open};
 ghost use Rattle.faces.specs.Places.View.{view};
 ghost use Rattle.rules.specs.Node as rules;
+ghost use Rattle.rows.specs.Lent.{lent, shown};
 ghost use Rattle.event.specs.Memory.{Memory, memory, output, node_of};
 ghost use Rattle.event.specs.Comes.{Stepped, Begun};
 ghost use Rattle.event.specs.Places.Begins.{refusal, Ageing};
@@ -116,7 +117,8 @@ fn ages(
     start: u64,
     time: u64,
 ) -> Came
-    ensures { Ageing (fingerprint start) time small result names heads recs numbers lines rows }
+    ensures { Ageing (fingerprint start) time small result (shown names) (lent heads) (shown recs) (shown numbers) (lent lines)
+        (lent rows) }
 {
     let entries = small.pending;
     let held = small.ring;
@@ -152,7 +154,8 @@ pub fn begins(
     bad: bool,
 ) -> Came
     ensures { Begun time bad result
-        (memory small result.small prefixes settings costs names heads recs numbers packets uses lines) (output sends out rows) }
+        (memory small result.small (shown prefixes) (shown settings) (shown costs) (shown names) (lent heads) (shown recs) (shown numbers)
+        (shown packets) (shown uses) (lent lines)) (output (shown sends) (shown out) (lent rows)) }
 {
     let said = refusal(small.time, time, out.len(), bad);
     if number(said) != 0 {
@@ -182,7 +185,8 @@ pub fn clock(
     time: u64,
 ) -> Came
     ensures { Stepped time rules.clock result
-        (memory small result.small prefixes settings costs names heads recs numbers packets uses lines) (output sends out rows) }
+        (memory small result.small (shown prefixes) (shown settings) (shown costs) (shown names) (lent heads) (shown recs) (shown numbers)
+        (shown packets) (shown uses) (lent lines)) (output (shown sends) (shown out) (lent rows)) }
 {
     begins(
         prefixes, settings, costs, names, heads, recs, numbers, packets, uses, lines, sends, out,

@@ -3,6 +3,7 @@
 
 ghost use Rattle.std.specs.Prelude.{length};
 ghost use Rattle.rules.specs.Node as rules;
+ghost use Rattle.rows.specs.Lent.{lent, shown};
 ghost use Rattle.event.specs.Memory.{memory, output};
 ghost use Rattle.event.specs.Comes.{Stepped};
 ghost use Rattle.coming.specs.Goes.{After};
@@ -38,7 +39,8 @@ fn read(
     bytes: &[u8],
 ) -> Came
     ensures { After (read_in (length out.old) face bytes.now) made result
-        (memory small result.small prefixes settings costs names heads recs numbers packets uses lines) (output sends out rows) }
+        (memory small result.small (shown prefixes) (shown settings) (shown costs) (lent names) (lent heads) (lent recs) (lent numbers)
+        (lent packets) (lent uses) (lent lines)) (output (lent sends) (lent out) (lent rows)) }
 {
     match read_header(bytes) {
         Header::Refused(a) => quiet(a, small, made),
@@ -93,7 +95,8 @@ pub fn packet(
     bytes: &[u8],
 ) -> Came
     ensures { Stepped time (rules.packet face bytes.now) result
-        (memory small result.small prefixes settings costs names heads recs numbers packets uses lines) (output sends out rows) }
+        (memory small result.small (shown prefixes) (shown settings) (shown costs) (lent names) (lent heads) (lent recs) (lent numbers)
+        (lent packets) (lent uses) (lent lines)) (output (lent sends) (lent out) (lent rows)) }
 {
     let faces = small.faces;
     let bad = is_not_open(faces, face);

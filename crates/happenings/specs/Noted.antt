@@ -1,8 +1,7 @@
 -- Happenings noted in rows, one after the other.
 -- Assumes nothing.
 use Rattle.std.specs.Prelude.{ℕ, ◌+◌, ◌*◌, ◌≤◌, ◌<◌, max, ◌≡◌, List, [], ◌∷◌, length}
-use Rattle.std.specs.Borrow.{Bor}
-use denote.Triple.Both.{Both}
+use Rattle.rows.specs.Lent.{Lent}
 use Rattle.std.proofs.lemmas.List.Edits.{sets}
 use Rattle.sizes.specs.Sizes.{most_faces, most_entries}
 use Rattle.records.specs.Happening as rules
@@ -33,5 +32,5 @@ pub record Notes (most r : ℕ) (after before : List (List ℕ)) (at : ℕ) (new
   pub full : most < at + length news → r ≡ max at most
 
 -- rows noted in what a function was lent, with its answer
-abbrev pub Noted : Both (Bor (List (List ℕ))) (Bor (List (List ℕ))) → ℕ → ℕ → List (List ℕ) → Type 0
-Noted rows r at news = Notes most_rows r rows.exit.now rows.entry.now at news
+abbrev pub Noted : Lent (List (List ℕ)) → ℕ → ℕ → List (List ℕ) → Type 0
+Noted rows r at news = Notes most_rows r rows.exit rows.entry at news

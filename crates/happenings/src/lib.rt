@@ -3,6 +3,7 @@
 
 ghost use Rattle.std.specs.Prelude.{◌≡◌, [], ◌∷◌, length};
 ghost use Rattle.records.specs.Rows.{fate_number};
+ghost use Rattle.rows.specs.Lent.{lent};
 ghost use Rattle.happenings.specs.Noted.{most_rows, fate_in, note_of, Noted};
 
 use sizes::{ENTRIES, FACES};
@@ -53,7 +54,7 @@ pub fn note(
     nonce: u64,
     expiry: u64,
 ) -> usize
-    ensures { Noted rows result at (note_of face class fate nonce expiry ∷ []) }
+    ensures { Noted (lent rows) result at (note_of face class fate nonce expiry ∷ []) }
 {
     has_all_rows(*rows);
     if at < ROWS {

@@ -6,6 +6,7 @@ ghost use Rattle.answers.specs.declared.Answer.{Answer};
 ghost use Rattle.sizes.specs.Sizes.{most_freshness};
 ghost use Rattle.packethead.specs.Name.{name_of};
 ghost use Rattle.rules.specs.Data.{data_step};
+ghost use Rattle.rows.specs.Lent.{lent, shown};
 ghost use Rattle.event.specs.Memory.{memory, output};
 ghost use Rattle.coming.specs.Goes.{After, guarded};
 ghost use Rattle.coming.specs.Places.Found.{offer_found};
@@ -71,7 +72,8 @@ fn bring(
 ) -> Came
     requires { Fits name.now bare.now out.old }
     ensures { After (brings face (offer_found bare.now d) bare.now) made result
-        (memory small result.small prefixes settings costs names heads recs numbers packets uses lines) (output sends out rows) }
+        (memory small result.small (shown prefixes) (shown settings) (shown costs) (shown names) (shown heads) (shown recs) (shown numbers)
+        (lent packets) (lent uses) (lent lines)) (output (lent sends) (lent out) (lent rows)) }
 {
     let s = small.pending;
     let held = small.ring;
@@ -134,7 +136,8 @@ pub fn data(
 ) -> Came
     ensures { After (λ n. guarded (length out.old) (length bare.now) (length (name_of bare.now)) n
         (data_step n.time n face (offer_found bare.now d) bare.now)) made result
-        (memory small result.small prefixes settings costs names heads recs numbers packets uses lines) (output sends out rows) }
+        (memory small result.small (shown prefixes) (shown settings) (shown costs) (shown names) (shown heads) (shown recs) (shown numbers)
+        (lent packets) (lent uses) (lent lines)) (output (lent sends) (lent out) (lent rows)) }
 {
     let name = find_name(bare);
     let said = guard(small.time, out.len(), bare.len(), name.len());

@@ -8,6 +8,7 @@ ghost use Rattle.faces.specs.Places.View.{view};
 ghost use Rattle.faces.specs.Link.{link_type};
 ghost use Rattle.rules.specs.Node as rules;
 ghost use Rattle.rules.specs.Command.{link_of};
+ghost use Rattle.rows.specs.Lent.{lent, shown};
 ghost use Rattle.event.specs.Memory.{memory, output};
 ghost use Rattle.event.specs.Comes.{Stepped};
 ghost use Rattle.on_face.specs.Turns.{FacesBy};
@@ -107,7 +108,8 @@ pub fn open_face(
     link: u64,
 ) -> Came
     ensures { Stepped time (rules.open_face face scope link) result
-        (memory small result.small prefixes settings costs names heads recs numbers packets uses lines) (output sends out rows) }
+        (memory small result.small (shown prefixes) (shown settings) (shown costs) (shown names) (lent heads) (shown recs) (shown numbers)
+        (shown packets) (shown uses) (lent lines)) (output (shown sends) (shown out) (lent rows)) }
 {
     let bad = is_no_face(face);
     let begun = begins(
@@ -148,7 +150,8 @@ pub fn close_face(
     face: usize,
 ) -> Came
     ensures { Stepped time (rules.close_face face) result
-        (memory small result.small prefixes settings costs names heads recs numbers packets uses lines) (output sends out rows) }
+        (memory small result.small (shown prefixes) (lent settings) (shown costs) (shown names) (lent heads) (shown recs) (shown numbers)
+        (shown packets) (shown uses) (lent lines)) (output (shown sends) (shown out) (lent rows)) }
 {
     let faces = small.faces;
     let bad = is_not_open(faces, face);

@@ -19,6 +19,7 @@ ghost use Rattle.pending_table.specs.Places.View as pending;
 ghost use Rattle.store.specs.Places.View as store;
 ghost use Rattle.rules.specs.Node.{Node};
 ghost use Rattle.rules.specs.Interest.{Arrival, hop_is_zero, out_of_scope, served, asks_again, asks_entry, interest_step};
+ghost use Rattle.rows.specs.Lent.{lent, shown};
 ghost use Rattle.event.specs.Memory.{Table, memory, output};
 ghost use Rattle.coming.specs.Goes.{After, guard_says, guarded};
 ghost use Rattle.coming.specs.Places.Found.{limit_of, arrival_found};
@@ -68,11 +69,12 @@ fn serve(
 ) -> Came
     requires { least_buffer ≤ length out.old }
     ensures { (names heads : Table) (recs : List Table) (numbers : List ℕ) (lines rows : Table) (a : Arrival) (h : Hit)
-        → a.face ≡ face → h.place ≡ store.placed packets uses small.store hit
-        → store.found packets uses small.store hit ≡ some h.what
+        → a.face ≡ face → h.place ≡ store.placed (lent packets) (lent uses) small.store hit
+        → store.found (lent packets) (lent uses) small.store hit ≡ some h.what
         → After (λ n. served n a h) made result
-        (beside_pending small result.small prefixes settings costs names heads recs numbers packets uses lines)
-        (beside_rows sends out rows) }
+        (beside_pending small result.small (shown prefixes) (shown settings) (shown costs) names heads recs numbers (lent packets)
+        (lent uses) lines)
+        (beside_rows (lent sends) (lent out) rows) }
 {
     let kept = small.store;
     let bytes = store::bytes_of(packets, uses, kept, hit);
@@ -104,8 +106,9 @@ fn note_opening(
     nonce: u64,
     expiry: u64,
 ) -> usize
-    ensures { (t : ℕ) (e : Entry) → pending.entry_at names heads recs numbers s h ≡ some e → class ≡ class_number e.cls
-        → Noted rows result made (map row_of (pick (is_some (slot face e.requests)) []
+    ensures { (t : ℕ) (e : Entry) → pending.entry_at (shown names) (shown heads) (shown recs)
+        (shown numbers) s h ≡ some e → class ≡ class_number e.cls
+        → Noted (lent rows) result made (map row_of (pick (is_some (slot face e.requests)) []
         (happens opened t e (record { face = face; what = record { nonce = nonce; expiry = expiry } }) ∷ []))) }
 {
     let asking = pending_handle::asking_faces(names, heads, recs, numbers, s, h);
@@ -137,9 +140,11 @@ fn ask_again(
     i: Interest,
 ) -> Came
     requires { Guarded small.time (length out.old) bare.now name.now }
-    ensures { (packets uses lines : Table) (e : Entry) → pending.entry_at names heads recs numbers small.pending h ≡ some e
-        → After (λ n. asks_again n.time n (arrival_found face bare.now i) (pending.place_of numbers small.pending h) e) made result
-        (beside_store small result.small prefixes settings costs names heads recs numbers packets uses lines) (output sends out rows) }
+    ensures { (packets uses lines : Table) (e : Entry) → pending.entry_at (shown names) (lent heads) (lent recs)
+        (shown numbers) small.pending h ≡ some e
+        → After (λ n. asks_again n.time n (arrival_found face bare.now i) (pending.place_of (shown numbers) small.pending h) e) made result
+        (beside_store small result.small (shown prefixes) (shown settings) (shown costs) (shown names) (lent heads) (lent recs)
+        (shown numbers) packets uses lines) (output (lent sends) (lent out) (lent rows)) }
 {
     let s = small.pending;
     let time = small.time;
@@ -197,7 +202,8 @@ fn ask_anew(
 ) -> Came
     requires { Guarded small.time (length out.old) bare.now name.now }
     ensures { After (λ n. asks_entry n.time n (arrival_found face bare.now i) none) made result
-        (memory small result.small prefixes settings costs names heads recs numbers packets uses lines) (output sends out rows) }
+        (memory small result.small (shown prefixes) (shown settings) (shown costs) (lent names) (lent heads) (lent recs) (lent numbers)
+        (lent packets) (lent uses) (shown lines)) (output (lent sends) (lent out) (lent rows)) }
 {
     let kept = small.store;
     let prefix = i.can_be_prefix;
@@ -226,8 +232,9 @@ fn see(
     name: &[u8],
     i: Interest,
 ) -> Seen
-    ensures { Sees result small.time (faces.view small.faces) (pending.before names heads recs numbers small.pending)
-        (dead.before lines small.ring) face name.now i (pending.place_of numbers small.pending result.handle) }
+    ensures { Sees result small.time (faces.view small.faces) (pending.before (shown names) (shown heads) (shown recs)
+        (shown numbers) small.pending)
+        (dead.before (shown lines) small.ring) face name.now i (pending.place_of (shown numbers) small.pending result.handle) }
 {
     let s = small.pending;
     let prefix = i.can_be_prefix;
@@ -288,7 +295,8 @@ pub fn interest(
 ) -> Came
     ensures { After (λ n. guarded (length out.old) (length bare.now) (length (name_of bare.now)) n
         (interest_step n.time n (arrival_found face bare.now i))) made result
-        (memory small result.small prefixes settings costs names heads recs numbers packets uses lines) (output sends out rows) }
+        (memory small result.small (shown prefixes) (shown settings) (shown costs) (lent names) (lent heads) (lent recs) (lent numbers)
+        (lent packets) (lent uses) (shown lines)) (output (lent sends) (lent out) (lent rows)) }
 {
     let name = find_name(bare);
     let hop = i.hop;

@@ -10,6 +10,7 @@ ghost use Rattle.records.specs.Entry.{Entry, is_known, smallest_reason, with_nac
 ghost use Rattle.packethead.specs.Name.{name_of};
 ghost use Rattle.packets.specs.Meaning.{Ask};
 ghost use Rattle.rules.specs.Nack.{ends_by_nack, nacked_entry, nack_step};
+ghost use Rattle.rows.specs.Lent.{lent, shown};
 ghost use Rattle.dead.specs.Places.View as dead;
 ghost use Rattle.pending_table.specs.Places.View.{before, after, place_of, entry_at, marks_of, marks_then};
 ghost use Rattle.pending_pass.specs.Places.Pass.{Leaves};
@@ -55,10 +56,11 @@ fn leave_if_idle(
     start: u64,
     time: u64,
 ) -> Left
-    ensures { (e : Entry) → entry_at names heads recs numbers s h ≡ some e
-        → Leaves (fingerprint start) time (place_of numbers s h) e
-        (before names heads recs numbers s) (marks_of numbers s) (dead.before lines ring)
-        (after names heads recs numbers result.pending) (marks_then numbers result.pending) (dead.after lines result.ring) }
+    ensures { (e : Entry) → entry_at (shown names) (shown heads) (shown recs) (shown numbers) s h ≡ some e
+        → Leaves (fingerprint start) time (place_of (shown numbers) s h) e
+        (before (shown names) (shown heads) (shown recs) (shown numbers) s) (marks_of (shown numbers) s) (dead.before (lent lines) ring)
+        (after (shown names) (shown heads) (shown recs) (shown numbers) result.pending) (marks_then (shown numbers) result.pending)
+        (dead.after (lent lines) result.ring) }
 {
     if pending_handle::is_idle(names, heads, recs, numbers, s, h) {
         let buried = pending_handle::bury(
@@ -85,7 +87,7 @@ fn nonce_of(
     h: Handle,
     face: usize,
 ) -> u64
-    ensures { result ≡ nonce_at (entry_at names heads recs numbers s h) face }
+    ensures { result ≡ nonce_at (entry_at (shown names) (shown heads) (shown recs) (shown numbers) s h) face }
 {
     match pending_handle::request_of(names, heads, recs, numbers, s, h, face) {
         Asked::None => 0,
@@ -112,8 +114,8 @@ fn send_nacks(
 ) -> usize
     requires name_len_bound { length name.now ≤ most_name }
     requires least_buffer_in_bounds { least_buffer ≤ length out.old }
-    ensures { PacksIn sends out result
-        (nacks_on (entry_at names heads recs numbers s h) set reason name.now prefix fresh class) }
+    ensures { PacksIn (lent sends) (lent out) result
+        (nacks_on (entry_at (shown names) (shown heads) (shown recs) (shown numbers) s h) set reason name.now prefix fresh class) }
 {
     let mut sent = Sent { count: 0, at: 0 };
     let mut left = set;
@@ -149,10 +151,10 @@ fn end_by_nack(
 ) -> Came
     requires name_len_bound { length name.now ≤ most_name }
     requires least_buffer_in_bounds { least_buffer ≤ length out.old }
-    ensures { (e : Entry) → entry_at names heads recs numbers small.pending h ≡ some e
+    ensures { (e : Entry) → entry_at (shown names) (lent heads) (shown recs) (shown numbers) small.pending h ≡ some e
         → is_known name.now prefix fresh e ≡ true → reason ≡ smallest_reason (held e.sent)
-        → TurnsIn (λ n. ends_by_nack small.time n (place_of numbers small.pending h) e) made small result
-        names heads recs numbers lines sends out rows }
+        → TurnsIn (λ n. ends_by_nack small.time n (place_of (shown numbers) small.pending h) e) made small result
+        (shown names) (lent heads) (shown recs) (shown numbers) (lent lines) (lent sends) (lent out) (lent rows) }
 {
     let s = small.pending;
     let faces = small.faces;
@@ -227,10 +229,10 @@ fn mark(
 ) -> Came
     requires name_len_bound { length name.now ≤ most_name }
     requires least_buffer_in_bounds { least_buffer ≤ length out.old }
-    ensures { (e : Entry) → entry_at names heads recs numbers small.pending h ≡ some e
+    ensures { (e : Entry) → entry_at (shown names) (lent heads) (lent recs) (shown numbers) small.pending h ≡ some e
         → is_known name.now prefix fresh e ≡ true
-        → TurnsIn (λ n. nacked_entry small.time n (place_of numbers small.pending h) (with_nack face reason e)) made small result
-        names heads recs numbers lines sends out rows }
+        → TurnsIn (λ n. nacked_entry small.time n (place_of (shown numbers) small.pending h) (with_nack face reason e)) made small result
+        (shown names) (lent heads) (lent recs) (shown numbers) (lent lines) (lent sends) (lent out) (lent rows) }
 {
     let s = small.pending;
     pending_handle::mark_nacked(names, heads, recs, numbers, s, h, face, reason);
@@ -279,7 +281,8 @@ fn take(
     requires name_len_bound { length name.now ≤ most_name }
     requires least_buffer_in_bounds { least_buffer ≤ length out.old }
     ensures { (a : Ask) → a.name ≡ name.now → a.can_be_prefix ≡ prefix → a.must_be_fresh ≡ fresh → a.nonce ≡ nonce
-        → TurnsIn (λ n. nack_step small.time n face reason a) made small result names heads recs numbers lines sends out rows }
+        → TurnsIn (λ n. nack_step small.time n face reason a) made small result (shown names) (lent heads) (lent recs) (shown numbers)
+        (lent lines) (lent sends) (lent out) (lent rows) }
 {
     let s = small.pending;
     let faces = small.faces;
@@ -324,7 +327,8 @@ pub fn nack(
     ensures { After
         (λ n. guarded (length out.old) (length bare.now) (length (name_of bare.now)) n
         (nack_step n.time n face reason (ask_found bare.now i))) made result
-        (memory small result.small prefixes settings costs names heads recs numbers packets uses lines) (output sends out rows) }
+        (memory small result.small (shown prefixes) (shown settings) (shown costs) (shown names) (lent heads) (lent recs) (shown numbers)
+        (shown packets) (shown uses) (lent lines)) (output (lent sends) (lent out) (lent rows)) }
 {
     let name = find_name(bare);
     let said = coming::guard(small.time, out.len(), bare.len(), name.len());

@@ -5,6 +5,7 @@ ghost use Rattle.std.specs.Prelude.{◌≡◌};
 ghost use Rattle.records.specs.Class.{class_of, is_class};
 ghost use Rattle.routes.specs.Places.View.{before, after};
 ghost use Rattle.rules.specs.Node as rules;
+ghost use Rattle.rows.specs.Lent.{lent, shown};
 ghost use Rattle.event.specs.Memory.{memory, output};
 ghost use Rattle.event.specs.Comes.{Stepped};
 ghost use Rattle.on_route.specs.Turns.{RoutesBy, prefix_says};
@@ -55,7 +56,8 @@ fn dropping(
     prefix: &[u8],
 ) -> Routed
     ensures { RoutesBy (rules.drop_route prefix.now)
-        (before prefixes settings costs known) result.answer (after prefixes settings costs result.routes) }
+        (before (lent prefixes) (lent settings) (lent costs) known) result.answer (after (lent prefixes) (lent settings)
+        (lent costs) result.routes) }
 {
     let said = prefix_answer(prefix);
     if number(said) != 0 {
@@ -98,7 +100,8 @@ pub fn drop_route(
     prefix: &[u8],
 ) -> Came
     ensures { Stepped time (rules.drop_route prefix.now) result
-        (memory small result.small prefixes settings costs names heads recs numbers packets uses lines) (output sends out rows) }
+        (memory small result.small (lent prefixes) (lent settings) (lent costs) (shown names) (lent heads) (shown recs) (shown numbers)
+        (shown packets) (shown uses) (lent lines)) (output (shown sends) (shown out) (lent rows)) }
 {
     let begun = begins(
         prefixes, settings, costs, names, heads, recs, numbers, packets, uses, lines, sends, out,
@@ -141,7 +144,8 @@ fn setting(
     prefix: &[u8],
 ) -> Routed
     ensures { RoutesBy (rules.set_route class prefix.now)
-        (before prefixes settings costs known) result.answer (after prefixes settings costs result.routes) }
+        (before (lent prefixes) (lent settings) (shown costs) known) result.answer (after (lent prefixes) (lent settings)
+        (shown costs) result.routes) }
 {
     let said = prefix_answer(prefix);
     if number(said) != 0 {
@@ -192,7 +196,8 @@ pub fn set_route(
     prefix: &[u8],
 ) -> Came
     ensures { Stepped time (rules.set_route class prefix.now) result
-        (memory small result.small prefixes settings costs names heads recs numbers packets uses lines) (output sends out rows) }
+        (memory small result.small (lent prefixes) (lent settings) (shown costs) (shown names) (lent heads) (shown recs) (shown numbers)
+        (shown packets) (shown uses) (lent lines)) (output (shown sends) (shown out) (lent rows)) }
 {
     let begun = begins(
         prefixes, settings, costs, names, heads, recs, numbers, packets, uses, lines, sends, out,
@@ -223,7 +228,7 @@ fn adding_hop(
     prefix: &[u8],
 ) -> Answer
     ensures { RoutesBy (rules.add_hop face cost prefix.now)
-        (before prefixes settings costs known) result (after prefixes settings costs known) }
+        (before (shown prefixes) (lent settings) (lent costs) known) result (after (shown prefixes) (lent settings) (lent costs) known) }
 {
     let said = prefix_answer(prefix);
     if number(said) != 0 {
@@ -262,7 +267,8 @@ pub fn add_hop(
     prefix: &[u8],
 ) -> Came
     ensures { Stepped time (rules.add_hop face cost prefix.now) result
-        (memory small result.small prefixes settings costs names heads recs numbers packets uses lines) (output sends out rows) }
+        (memory small result.small (shown prefixes) (lent settings) (lent costs) (shown names) (lent heads) (shown recs) (shown numbers)
+        (shown packets) (shown uses) (lent lines)) (output (shown sends) (shown out) (lent rows)) }
 {
     let faces = small.faces;
     let bad = is_not_open(faces, face);
@@ -290,7 +296,7 @@ fn dropping_hop(
     prefix: &[u8],
 ) -> Answer
     ensures { RoutesBy (rules.drop_hop face prefix.now)
-        (before prefixes settings costs known) result (after prefixes settings costs known) }
+        (before (shown prefixes) (lent settings) (shown costs) known) result (after (shown prefixes) (lent settings) (shown costs) known) }
 {
     let said = prefix_answer(prefix);
     if number(said) != 0 {
@@ -325,7 +331,8 @@ pub fn drop_hop(
     prefix: &[u8],
 ) -> Came
     ensures { Stepped time (rules.drop_hop face prefix.now) result
-        (memory small result.small prefixes settings costs names heads recs numbers packets uses lines) (output sends out rows) }
+        (memory small result.small (shown prefixes) (lent settings) (shown costs) (shown names) (lent heads) (shown recs) (shown numbers)
+        (shown packets) (shown uses) (lent lines)) (output (shown sends) (shown out) (lent rows)) }
 {
     let faces = small.faces;
     let bad = is_not_open(faces, face);

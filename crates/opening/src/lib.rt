@@ -10,6 +10,7 @@ ghost use Rattle.routes.specs.Places.View as routes;
 ghost use Rattle.pending_table.specs.Places.View as pending;
 ghost use Rattle.rules.specs.Interest.{opens_entry, routed};
 ghost use Rattle.writing.specs.Written.{nack_bytes};
+ghost use Rattle.rows.specs.Lent.{lent, shown};
 ghost use Rattle.sending.specs.Rows.{if_room};
 ghost use Rattle.sending.specs.Places.Sheet.{PacksIn, nack_sends};
 ghost use Rattle.event.specs.Memory.{Table, output};
@@ -48,9 +49,9 @@ pub fn refused(
     i: Interest,
 ) -> Came
     ensures value { result ≡ came answer small result.sent made }
-    ensures packs_in { PacksIn sends out result.sent
+    ensures packs_in { PacksIn (lent sends) (lent out) result.sent
         (if_room (nack_bytes reason name.now i.can_be_prefix i.must_be_fresh i.nonce) out.old
-        (nack_sends (view small.faces) (routes.before prefixes settings costs small.routes) face reason name.now
+        (nack_sends (view small.faces) (routes.before (shown prefixes) (shown settings) (shown costs) small.routes) face reason name.now
         i.can_be_prefix i.must_be_fresh i.nonce)) }
 {
     let prefix = i.can_be_prefix;
@@ -97,7 +98,8 @@ fn open(
     requires pending_len_bound { length (pending.view names.old heads.old recs.old numbers.old small.pending) < most_entries }
     ensures { (packets uses lines : Table)
         → After (λ n. opens_entry n.time n (arrival_named face name.now bare.now i) (class_of class) to) made result
-        (beside_store small result.small prefixes settings costs names heads recs numbers packets uses lines) (output sends out rows) }
+        (beside_store small result.small (shown prefixes) (shown settings) (shown costs) (lent names) (lent heads) (lent recs)
+        (lent numbers) packets uses lines) (output (lent sends) (lent out) (lent rows)) }
 {
     let time = small.time;
     let nonce = i.nonce;
@@ -145,7 +147,8 @@ pub fn route(
     ensures { (packets uses lines : Table)
         → After (λ n. guarded (length out.old) (length bare.now) (length name.now) n
         (routed n.time n (arrival_named face name.now bare.now i) (longest name.now n.routes))) made result
-        (beside_store small result.small prefixes settings costs names heads recs numbers packets uses lines) (output sends out rows) }
+        (beside_store small result.small (shown prefixes) (shown settings) (shown costs) (lent names) (lent heads) (lent recs)
+        (lent numbers) packets uses lines) (output (lent sends) (lent out) (lent rows)) }
 {
     let said = guard(small.time, out.len(), bare.len(), name.len());
     if number(said) != 0 {

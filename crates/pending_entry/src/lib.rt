@@ -8,6 +8,7 @@ ghost use Rattle.records.specs.Class.{class_of};
 ghost use Rattle.records.specs.Face.{is_face};
 ghost use Rattle.records.specs.Slots.{slot};
 ghost use Rattle.records.specs.Entry.{asking, ending, sending, not_sent, with_nack, is_idle, reason_of, own_nonce, sent_nonce};
+ghost use Rattle.rows.specs.Lent.{lent, shown};
 ghost use Rattle.faces.specs.Set.{has_face};
 ghost use Rattle.pending_entry.specs.Places.View.{view, before, after};
 ghost use Rattle.pending_entry.specs.Operations.{bare_entry, request_with, sent_with, request_in, asking_faces, sent_faces, unsent_of};
@@ -85,7 +86,8 @@ fn has_all_records(recs: Records)
 
 // "open this face's request, or renew it with the new nonce and expiry"
 pub fn renew(head: &mut Head, recs: &mut Records, face: usize, nonce: u64, expiry: u64)
-    ensures { (nm : List ℕ) → after nm head recs ≡ asking face (request_with nonce expiry) (before nm head recs) }
+    ensures { (nm : List ℕ) → after nm (lent head) (lent recs) ≡ asking face (request_with nonce expiry) (before nm (lent head)
+        (lent recs)) }
 {
     if is_face(face) {
         has_all_records(*recs);
@@ -105,7 +107,7 @@ pub fn renew(head: &mut Head, recs: &mut Records, face: usize, nonce: u64, expir
 
 // Ends the requests of the faces of a set, all at once.
 pub fn end_requests(head: &mut Head, recs: &Records, set: u64)
-    ensures { (nm : List ℕ) → after nm head recs ≡ ending (has_face most_faces set) (before nm head recs) }
+    ensures { (nm : List ℕ) → after nm (lent head) (shown recs) ≡ ending (has_face most_faces set) (before nm (lent head) (shown recs)) }
 {
     let h = *head;
     *head = [
@@ -120,7 +122,7 @@ pub fn end_requests(head: &mut Head, recs: &Records, set: u64)
 
 // "A send sets the out-record anew, its Nack reason cleared."
 pub fn send(head: &mut Head, recs: &mut Records, face: usize, nonce: u64, time: u64)
-    ensures { (nm : List ℕ) → after nm head recs ≡ sending face (sent_with nonce time) (before nm head recs) }
+    ensures { (nm : List ℕ) → after nm (lent head) (lent recs) ≡ sending face (sent_with nonce time) (before nm (lent head) (lent recs)) }
 {
     if is_face(face) {
         has_all_records(*recs);
@@ -140,7 +142,7 @@ pub fn send(head: &mut Head, recs: &mut Records, face: usize, nonce: u64, time: 
 
 // Takes a face's out-record out.
 pub fn end_sent(head: &mut Head, recs: &Records, face: usize)
-    ensures { (nm : List ℕ) → after nm head recs ≡ not_sent face (before nm head recs) }
+    ensures { (nm : List ℕ) → after nm (lent head) (shown recs) ≡ not_sent face (before nm (lent head) (shown recs)) }
 {
     let h = *head;
     *head = [
@@ -178,7 +180,7 @@ fn nack_word(reason: u64) -> u64
 
 // Marks a face's out-record as Nacked: "Reasons other than 50, 100, 150 become 0, still Nacked."
 pub fn mark_nacked(head: &Head, recs: &mut Records, face: usize, reason: u64)
-    ensures { (nm : List ℕ) → after nm head recs ≡ with_nack face reason (before nm head recs) }
+    ensures { (nm : List ℕ) → after nm (shown head) (lent recs) ≡ with_nack face reason (before nm (shown head) (lent recs)) }
 {
     if has(head[SENT], face) {
         has_all_records(*recs);
@@ -195,35 +197,35 @@ pub fn mark_nacked(head: &Head, recs: &mut Records, face: usize, reason: u64)
 
 // The faces with a request.
 pub fn asking_faces(head: &Head, recs: &Records) -> u64
-    ensures { (nm : List ℕ) → result ≡ asking_faces most_faces (before nm head recs) }
+    ensures { (nm : List ℕ) → result ≡ asking_faces most_faces (before nm (shown head) (shown recs)) }
 {
     members(head[ASKING])
 }
 
 // The faces with an out-record.
 pub fn sent_faces(head: &Head, recs: &Records) -> u64
-    ensures { (nm : List ℕ) → result ≡ sent_faces most_faces (before nm head recs) }
+    ensures { (nm : List ℕ) → result ≡ sent_faces most_faces (before nm (shown head) (shown recs)) }
 {
     members(head[SENT])
 }
 
 // The faces of a set without an out-record.
 pub fn unsent(head: &Head, recs: &Records, set: u64) -> u64
-    ensures { (nm : List ℕ) → result ≡ unsent_of most_faces set (before nm head recs) }
+    ensures { (nm : List ℕ) → result ≡ unsent_of most_faces set (before nm (shown head) (shown recs)) }
 {
     less(set, head[SENT])
 }
 
 // Whether there are no requests: the size of their set is 0.
 pub fn is_idle(head: &Head, recs: &Records) -> bool
-    ensures { (nm : List ℕ) → result ≡ is_idle (before nm head recs) }
+    ensures { (nm : List ℕ) → result ≡ is_idle (before nm (shown head) (shown recs)) }
 {
     size(head[ASKING]) == 0
 }
 
 // Whether a face's own request has a nonce.
 pub fn own_nonce(head: &Head, recs: &Records, face: usize, nonce: u64) -> bool
-    ensures { (nm : List ℕ) → result ≡ own_nonce face nonce (before nm head recs) }
+    ensures { (nm : List ℕ) → result ≡ own_nonce face nonce (before nm (shown head) (shown recs)) }
 {
     if has(head[ASKING], face) {
         return recs[face - 1][NONCE] == nonce;
@@ -233,7 +235,7 @@ pub fn own_nonce(head: &Head, recs: &Records, face: usize, nonce: u64) -> bool
 
 // Whether a face has an out-record with a nonce.
 pub fn sent_nonce(head: &Head, recs: &Records, face: usize, nonce: u64) -> bool
-    ensures { (nm : List ℕ) → result ≡ sent_nonce face nonce (before nm head recs) }
+    ensures { (nm : List ℕ) → result ≡ sent_nonce face nonce (before nm (shown head) (shown recs)) }
 {
     if has(head[SENT], face) {
         return recs[face - 1][SENT_NONCE] == nonce;
@@ -243,7 +245,7 @@ pub fn sent_nonce(head: &Head, recs: &Records, face: usize, nonce: u64) -> bool
 
 // A face's request.
 pub fn request_of(head: &Head, recs: &Records, face: usize) -> Asked
-    ensures { (nm : List ℕ) → request_in result ≡ slot face (before nm head recs).requests }
+    ensures { (nm : List ℕ) → request_in result ≡ slot face (before nm (shown head) (shown recs)).requests }
 {
     if has(head[ASKING], face) {
         Asked::Is(recs[face - 1][NONCE], recs[face - 1][EXPIRY])

@@ -17,6 +17,7 @@ ghost use Rattle.pending_entry.specs.Operations.{request_in, asking_faces, sent_
 ghost use Rattle.pending_entry.specs.Places.View as entry;
 ghost use Rattle.pending_records.specs.Operations.{overdue_faces, nacks_in, nacks_of, noted, noted_by, fate_by, noted_one, Joins};
 ghost use Rattle.records.specs.Closing.{own_line_by};
+ghost use Rattle.rows.specs.Lent.{lent, shown};
 ghost use Rattle.pending_table.specs.Places.View.{before, after, place_of, marks_of, entry_at};
 ghost use Rattle.pending_handle.specs.Operations.{is_due};
 
@@ -50,8 +51,9 @@ pub fn renew(
     nonce: u64,
     expiry: u64,
 )
-    ensures { after names heads recs numbers s
-        ≡ on_at (place_of numbers s h) (asking face (record { nonce = nonce; expiry = expiry })) (before names heads recs numbers s) }
+    ensures { after (shown names) (lent heads) (lent recs) (shown numbers) s
+        ≡ on_at (place_of (shown numbers) s h) (asking face (record { nonce = nonce; expiry = expiry })) (before (shown names) (lent heads)
+        (lent recs) (shown numbers) s) }
 {
     let row = row_of(s, h);
     if row < ENTRIES {
@@ -71,8 +73,9 @@ pub fn end_requests(
     h: Handle,
     set: u64,
 )
-    ensures { after names heads recs numbers s
-        ≡ on_at (place_of numbers s h) (ending (has_face most_faces set)) (before names heads recs numbers s) }
+    ensures { after (shown names) (lent heads) (shown recs) (shown numbers) s
+        ≡ on_at (place_of (shown numbers) s h) (ending (has_face most_faces set)) (before (shown names) (lent heads) (shown recs)
+        (shown numbers) s) }
 {
     let row = row_of(s, h);
     if row < ENTRIES {
@@ -94,9 +97,9 @@ pub fn send(
     nonce: u64,
     time: u64,
 )
-    ensures { after names heads recs numbers s
-        ≡ on_at (place_of numbers s h) (sending face (record { nonce = nonce; time = time; nacked = none }))
-        (before names heads recs numbers s) }
+    ensures { after (shown names) (lent heads) (lent recs) (shown numbers) s
+        ≡ on_at (place_of (shown numbers) s h) (sending face (record { nonce = nonce; time = time; nacked = none }))
+        (before (shown names) (lent heads) (lent recs) (shown numbers) s) }
 {
     let row = row_of(s, h);
     if row < ENTRIES {
@@ -116,7 +119,8 @@ pub fn end_sent(
     h: Handle,
     face: usize,
 )
-    ensures { after names heads recs numbers s ≡ on_at (place_of numbers s h) (not_sent face) (before names heads recs numbers s) }
+    ensures { after (shown names) (lent heads) (shown recs) (shown numbers) s ≡ on_at (place_of (shown numbers) s h) (not_sent face)
+        (before (shown names) (lent heads) (shown recs) (shown numbers) s) }
 {
     let row = row_of(s, h);
     if row < ENTRIES {
@@ -137,8 +141,8 @@ pub fn mark_nacked(
     face: usize,
     reason: u64,
 )
-    ensures { after names heads recs numbers s
-        ≡ on_at (place_of numbers s h) (with_nack face reason) (before names heads recs numbers s) }
+    ensures { after (shown names) (shown heads) (lent recs) (shown numbers) s
+        ≡ on_at (place_of (shown numbers) s h) (with_nack face reason) (before (shown names) (shown heads) (lent recs) (shown numbers) s) }
 {
     let row = row_of(s, h);
     if row < ENTRIES {
@@ -158,8 +162,10 @@ pub fn age(
     h: Handle,
     time: u64,
 ) -> u64
-    ensures s_value { after names heads recs numbers s ≡ on_at (place_of numbers s h) (aged_entry time) (before names heads recs numbers s) }
-    ensures value { result ≡ given 0 (overdue_faces most_faces time) (entry_at names heads recs numbers s h) }
+    ensures s_value { after (shown names) (lent heads) (shown recs) (shown numbers) s ≡ on_at (place_of (shown numbers) s h)
+        (aged_entry time) (before (shown names) (lent heads) (shown recs) (shown numbers) s) }
+    ensures value { result ≡ given 0 (overdue_faces most_faces time) (entry_at (shown names) (lent heads) (shown recs)
+        (shown numbers) s h) }
 {
     let row = row_of(s, h);
     if row < ENTRIES {
@@ -179,7 +185,7 @@ pub fn asking_faces(
     s: Pending,
     h: Handle,
 ) -> u64
-    ensures { result ≡ given 0 (asking_faces most_faces) (entry_at names heads recs numbers s h) }
+    ensures { result ≡ given 0 (asking_faces most_faces) (entry_at (shown names) (shown heads) (shown recs) (shown numbers) s h) }
 {
     let row = row_of(s, h);
     if row < ENTRIES {
@@ -197,7 +203,7 @@ pub fn sent_faces(
     s: Pending,
     h: Handle,
 ) -> u64
-    ensures { result ≡ given 0 (sent_faces most_faces) (entry_at names heads recs numbers s h) }
+    ensures { result ≡ given 0 (sent_faces most_faces) (entry_at (shown names) (shown heads) (shown recs) (shown numbers) s h) }
 {
     let row = row_of(s, h);
     if row < ENTRIES {
@@ -216,7 +222,7 @@ pub fn unsent(
     h: Handle,
     set: u64,
 ) -> u64
-    ensures { result ≡ given 0 (unsent_of most_faces set) (entry_at names heads recs numbers s h) }
+    ensures { result ≡ given 0 (unsent_of most_faces set) (entry_at (shown names) (shown heads) (shown recs) (shown numbers) s h) }
 {
     let row = row_of(s, h);
     if row < ENTRIES {
@@ -234,7 +240,7 @@ pub fn is_idle(
     s: Pending,
     h: Handle,
 ) -> bool
-    ensures { result ≡ given true is_idle (entry_at names heads recs numbers s h) }
+    ensures { result ≡ given true is_idle (entry_at (shown names) (shown heads) (shown recs) (shown numbers) s h) }
 {
     let row = row_of(s, h);
     if row < ENTRIES {
@@ -254,7 +260,7 @@ pub fn own_nonce(
     face: usize,
     nonce: u64,
 ) -> bool
-    ensures { result ≡ given false (own_nonce face nonce) (entry_at names heads recs numbers s h) }
+    ensures { result ≡ given false (own_nonce face nonce) (entry_at (shown names) (shown heads) (shown recs) (shown numbers) s h) }
 {
     let row = row_of(s, h);
     if row < ENTRIES {
@@ -274,7 +280,7 @@ pub fn sent_nonce(
     face: usize,
     nonce: u64,
 ) -> bool
-    ensures { result ≡ given false (sent_nonce face nonce) (entry_at names heads recs numbers s h) }
+    ensures { result ≡ given false (sent_nonce face nonce) (entry_at (shown names) (shown heads) (shown recs) (shown numbers) s h) }
 {
     let row = row_of(s, h);
     if row < ENTRIES {
@@ -293,7 +299,8 @@ pub fn request_of(
     h: Handle,
     face: usize,
 ) -> Asked
-    ensures { request_in result ≡ given none (λ e. slot face e.requests) (entry_at names heads recs numbers s h) }
+    ensures { request_in result ≡ given none (λ e. slot face e.requests) (entry_at (shown names) (shown heads) (shown recs)
+        (shown numbers) s h) }
 {
     let row = row_of(s, h);
     if row < ENTRIES {
@@ -312,7 +319,7 @@ pub fn overdue(
     h: Handle,
     time: u64,
 ) -> u64
-    ensures { result ≡ given 0 (overdue_faces most_faces time) (entry_at names heads recs numbers s h) }
+    ensures { result ≡ given 0 (overdue_faces most_faces time) (entry_at (shown names) (shown heads) (shown recs) (shown numbers) s h) }
 {
     let row = row_of(s, h);
     if row < ENTRIES {
@@ -331,7 +338,7 @@ pub fn has_nonce(
     h: Handle,
     nonce: u64,
 ) -> bool
-    ensures { result ≡ given false (has_nonce nonce) (entry_at names heads recs numbers s h) }
+    ensures { result ≡ given false (has_nonce nonce) (entry_at (shown names) (shown heads) (shown recs) (shown numbers) s h) }
 {
     let row = row_of(s, h);
     if row < ENTRIES {
@@ -350,7 +357,7 @@ pub fn is_suppressed(
     h: Handle,
     time: u64,
 ) -> bool
-    ensures { result ≡ given false (is_suppressed time) (entry_at names heads recs numbers s h) }
+    ensures { result ≡ given false (is_suppressed time) (entry_at (shown names) (shown heads) (shown recs) (shown numbers) s h) }
 {
     let row = row_of(s, h);
     if row < ENTRIES {
@@ -369,7 +376,8 @@ pub fn earliest(
     h: Handle,
     set: u64,
 ) -> usize
-    ensures { result ≡ given 0 (λ e. given 0 (λ f. f) (earliest_of (has_face most_faces set) e)) (entry_at names heads recs numbers s h) }
+    ensures { result ≡ given 0 (λ e. given 0 (λ f. f) (earliest_of (has_face most_faces set) e)) (entry_at (shown names) (shown heads)
+        (shown recs) (shown numbers) s h) }
 {
     let row = row_of(s, h);
     if row < ENTRIES {
@@ -387,7 +395,7 @@ pub fn all_nacked(
     s: Pending,
     h: Handle,
 ) -> Nacks
-    ensures { nacks_in result ≡ given none nacks_of (entry_at names heads recs numbers s h) }
+    ensures { nacks_in result ≡ given none nacks_of (entry_at (shown names) (shown heads) (shown recs) (shown numbers) s h) }
 {
     let row = row_of(s, h);
     if row < ENTRIES {
@@ -409,7 +417,8 @@ pub fn bury(
     start: u64,
     time: u64,
 ) -> Ring
-    ensures { Joins lines result ring (given [] (buried_by (fingerprint start) time) (entry_at names heads recs numbers s h)) }
+    ensures { Joins (lent lines) result ring (given [] (buried_by (fingerprint start) time) (entry_at (shown names) (shown heads)
+        (shown recs) (shown numbers) s h)) }
 {
     let row = row_of(s, h);
     if row < ENTRIES {
@@ -440,7 +449,8 @@ pub fn bury_face(
     time: u64,
     face: usize,
 ) -> Ring
-    ensures { Joins lines result ring (given [] (own_line_by (fingerprint start) time face) (entry_at names heads recs numbers s h)) }
+    ensures { Joins (lent lines) result ring (given [] (own_line_by (fingerprint start) time face) (entry_at (shown names) (shown heads)
+        (shown recs) (shown numbers) s h)) }
 {
     let row = row_of(s, h);
     if row < ENTRIES {
@@ -472,7 +482,8 @@ pub fn note_requests(
     fate: Fate,
 ) -> usize
     ensures { (t : ℕ)
-        → Noted rows result at (given [] (noted (fate_in fate) t (has_face most_faces set)) (entry_at names heads recs numbers s h)) }
+        → Noted (lent rows) result at (given [] (noted (fate_in fate) t (has_face most_faces set)) (entry_at (shown names) (shown heads)
+        (shown recs) (shown numbers) s h)) }
 {
     let row = row_of(s, h);
     if row < ENTRIES {
@@ -497,8 +508,8 @@ pub fn note_by_face(
     fate: Fate,
 ) -> usize
     ensures { (t : ℕ)
-        → Noted rows result at (given [] (noted_by (fate_by most_faces special own fate) t (has_face most_faces set))
-        (entry_at names heads recs numbers s h)) }
+        → Noted (lent rows) result at (given [] (noted_by (fate_by most_faces special own fate) t (has_face most_faces set))
+        (entry_at (shown names) (shown heads) (shown recs) (shown numbers) s h)) }
 {
     let row = row_of(s, h);
     if row < ENTRIES {
@@ -529,7 +540,8 @@ pub fn note_face(
     face: usize,
     fate: Fate,
 ) -> usize
-    ensures { (t : ℕ) → Noted rows result at (given [] (noted_one (fate_in fate) t face) (entry_at names heads recs numbers s h)) }
+    ensures { (t : ℕ) → Noted (lent rows) result at (given [] (noted_one (fate_in fate) t face) (entry_at (shown names) (shown heads)
+        (shown recs) (shown numbers) s h)) }
 {
     let row = row_of(s, h);
     if row < ENTRIES {
@@ -540,7 +552,7 @@ pub fn note_face(
 
 // Whether ageing concerns an entry: it has no requests, or one that is over.
 fn is_due(head: &Head, recs: &pending_entry::Records, time: u64) -> bool
-    ensures { (nm : List ℕ) → result ≡ is_due time (entry.before nm head recs) }
+    ensures { (nm : List ℕ) → result ≡ is_due time (entry.before nm (shown head) (shown recs)) }
 {
     if pending_entry::is_idle(head, recs) {
         return true;
@@ -557,7 +569,7 @@ pub fn overdue_entries(
     s: Pending,
     time: u64,
 ) -> Chosen
-    ensures { marks_of numbers s result ≡ map (is_due time) (before names heads recs numbers s) }
+    ensures { marks_of (shown numbers) s result ≡ map (is_due time) (before (shown names) (shown heads) (shown recs) (shown numbers) s) }
 {
     let mut left = s.used;
     let mut rows = left;

@@ -10,6 +10,7 @@ ghost use Rattle.records.specs.Face.{is_face};
 ghost use Rattle.names.specs.Fingerprint.{fingerprint};
 ghost use Rattle.records.specs.Slots.{at_place};
 ghost use Rattle.records.specs.Entry.{Entry};
+ghost use Rattle.rows.specs.Lent.{lent, shown};
 ghost use Rattle.dead.specs.Places.View as dead;
 ghost use Rattle.happenings.specs.Noted.{most_rows};
 ghost use Rattle.pending_table.specs.Places.View.{before, after, place_of, marks_of, marks_then};
@@ -80,10 +81,12 @@ fn leave_if_idle(
     start: u64,
     time: u64,
 ) -> Left
-    ensures { (e : Entry) → at_place (place_of numbers s h) (before names heads recs numbers s) ≡ some e
-        → Leaves (fingerprint start) time (place_of numbers s h) e
-        (before names heads recs numbers s) (marks_of numbers s) (dead.view lines.old ring)
-        (after names heads recs numbers result.pending) (marks_then numbers result.pending) (dead.view lines.new result.ring) }
+    ensures { (e : Entry) → at_place (place_of (shown numbers) s h) (before (shown names) (shown heads) (shown recs)
+        (shown numbers) s) ≡ some e
+        → Leaves (fingerprint start) time (place_of (shown numbers) s h) e
+        (before (shown names) (shown heads) (shown recs) (shown numbers) s) (marks_of (shown numbers) s) (dead.view lines.old ring)
+        (after (shown names) (shown heads) (shown recs) (shown numbers) result.pending) (marks_then (shown numbers) result.pending)
+        (dead.view lines.new result.ring) }
 {
     if is_idle(names, heads, recs, numbers, s, h) {
         let buried = bury(names, heads, recs, numbers, s, h, lines, ring, start, time);
@@ -113,10 +116,13 @@ fn age_turn(
     start: u64,
     time: u64,
 ) -> Passed
-    ensures { (e : Entry) → at_place (place_of numbers s h) (before names heads recs numbers s) ≡ some e
-        → Turned (ageing_work (fingerprint start) time) (place_of numbers s h) e
-        (before names heads recs numbers s) (marks_of numbers s) (dead.view lines.old ring) rows.old made
-        (after names heads recs numbers result.pending) (marks_then numbers result.pending) (dead.view lines.new result.ring)
+    ensures { (e : Entry) → at_place (place_of (shown numbers) s h) (before (shown names) (lent heads) (shown recs)
+        (shown numbers) s) ≡ some e
+        → Turned (ageing_work (fingerprint start) time) (place_of (shown numbers) s h) e
+        (before (shown names) (lent heads) (shown recs) (shown numbers) s) (marks_of (shown numbers) s)
+        (dead.view lines.old ring) rows.old made
+        (after (shown names) (lent heads) (shown recs) (shown numbers) result.pending) (marks_then (shown numbers) result.pending)
+        (dead.view lines.new result.ring)
         rows.new result.made }
 {
     let over = overdue(names, heads, recs, numbers, s, h, time);
@@ -158,8 +164,9 @@ pub fn age(
     time: u64,
 ) -> Passed
     ensures { Ages (fingerprint start) time
-        (before names heads recs numbers s) (dead.view lines.old ring) rows.old
-        (after names heads recs numbers result.pending) (dead.view lines.new result.ring) rows.new result.made }
+        (before (shown names) (lent heads) (shown recs) (shown numbers) s) (dead.view lines.old ring) rows.old
+        (after (shown names) (lent heads) (shown recs) (shown numbers) result.pending)
+        (dead.view lines.new result.ring) rows.new result.made }
 {
     has_all_rows(*rows);
     let mut left = overdue_entries(names, heads, recs, numbers, s, time);
@@ -201,10 +208,13 @@ fn close_turn(
     time: u64,
     face: usize,
 ) -> Passed
-    ensures { (e : Entry) → at_place (place_of numbers s h) (before names heads recs numbers s) ≡ some e
-        → Turned (closing_work (fingerprint start) time face) (place_of numbers s h) e
-        (before names heads recs numbers s) (marks_of numbers s) (dead.view lines.old ring) rows.old made
-        (after names heads recs numbers result.pending) (marks_then numbers result.pending) (dead.view lines.new result.ring)
+    ensures { (e : Entry) → at_place (place_of (shown numbers) s h) (before (shown names) (lent heads) (shown recs)
+        (shown numbers) s) ≡ some e
+        → Turned (closing_work (fingerprint start) time face) (place_of (shown numbers) s h) e
+        (before (shown names) (lent heads) (shown recs) (shown numbers) s) (marks_of (shown numbers) s)
+        (dead.view lines.old ring) rows.old made
+        (after (shown names) (lent heads) (shown recs) (shown numbers) result.pending) (marks_then (shown numbers) result.pending)
+        (dead.view lines.new result.ring)
         rows.new result.made }
 {
     let own = bury_face(
@@ -251,8 +261,9 @@ pub fn close_face(
     face: usize,
 ) -> Passed
     ensures { Closes (fingerprint start) time face
-        (before names heads recs numbers s) (dead.view lines.old ring) rows.old made
-        (after names heads recs numbers result.pending) (dead.view lines.new result.ring) rows.new result.made }
+        (before (shown names) (lent heads) (shown recs) (shown numbers) s) (dead.view lines.old ring) rows.old made
+        (after (shown names) (lent heads) (shown recs) (shown numbers) result.pending)
+        (dead.view lines.new result.ring) rows.new result.made }
 {
     has_all_rows(*rows);
     let mut left = all(names, heads, recs, numbers, s);
@@ -304,10 +315,13 @@ fn meet_turn(
     face: usize,
     adhoc: bool,
 ) -> Passed
-    ensures { (e : Entry) → at_place (place_of numbers s h) (before names heads recs numbers s) ≡ some e
-        → Turned (satisfying_work (fingerprint start) time (data_fate face adhoc)) (place_of numbers s h) e
-        (before names heads recs numbers s) (marks_of numbers s) (dead.view lines.old ring) rows.old made
-        (after names heads recs numbers result.pending) (marks_then numbers result.pending) (dead.view lines.new result.ring)
+    ensures { (e : Entry) → at_place (place_of (shown numbers) s h) (before (shown names) (shown heads) (shown recs)
+        (shown numbers) s) ≡ some e
+        → Turned (satisfying_work (fingerprint start) time (data_fate face adhoc)) (place_of (shown numbers) s h) e
+        (before (shown names) (shown heads) (shown recs) (shown numbers) s) (marks_of (shown numbers) s)
+        (dead.view lines.old ring) rows.old made
+        (after (shown names) (shown heads) (shown recs) (shown numbers) result.pending) (marks_then (shown numbers) result.pending)
+        (dead.view lines.new result.ring)
         rows.new result.made }
 {
     let asked = asking_faces(names, heads, recs, numbers, s, h);
@@ -351,9 +365,10 @@ fn meet_chosen(
     face: usize,
     adhoc: bool,
 ) -> Passed
-    ensures { Passes (satisfying_work (fingerprint start) time (data_fate face adhoc)) (marks_of numbers s chosen)
-        (before names heads recs numbers s) (dead.view lines.old ring) rows.old made
-        (after names heads recs numbers result.pending) (dead.view lines.new result.ring) rows.new result.made }
+    ensures { Passes (satisfying_work (fingerprint start) time (data_fate face adhoc)) (marks_of (shown numbers) s chosen)
+        (before (shown names) (shown heads) (shown recs) (shown numbers) s) (dead.view lines.old ring) rows.old made
+        (after (shown names) (shown heads) (shown recs) (shown numbers) result.pending)
+        (dead.view lines.new result.ring) rows.new result.made }
 {
     has_all_rows(*rows);
     let mut left = chosen;
@@ -436,7 +451,8 @@ fn lowest_classes(
     chosen: Chosen,
     classes: &mut Classes,
 ) -> u64
-    ensures { Lowest most_faces (marked (marks_of numbers s chosen) (before names heads recs numbers s)) result classes.new }
+    ensures { Lowest most_faces (marked (marks_of (shown numbers) s chosen) (before (shown names) (shown heads) (shown recs)
+        (shown numbers) s)) result classes.new }
 {
     *classes = [0; FACES];
     let mut had: u64 = 0;
@@ -473,8 +489,9 @@ pub fn satisfy(
     classes: &mut Classes,
 ) -> Satisfied
     ensures { Satisfies (fingerprint start) time face adhoc name.now
-        (before names heads recs numbers s) (dead.view lines.old ring) rows.old made
-        (after names heads recs numbers result.pending) (dead.view lines.new result.ring) rows.new result.made
+        (before (shown names) (shown heads) (shown recs) (shown numbers) s) (dead.view lines.old ring) rows.old made
+        (after (shown names) (shown heads) (shown recs) (shown numbers) result.pending)
+        (dead.view lines.new result.ring) rows.new result.made
         classes.new result.copies }
 {
     let chosen = matching(names, heads, recs, numbers, s, name);

@@ -2,8 +2,7 @@
 -- Assumes nothing.
 use Rattle.std.specs.Prelude.{ℕ, ◌≡◌, Bool, not, List, [], ◌∷◌, map}
 use Rattle.std.proofs.Math.Option.{Option, none, some}
-use Rattle.std.specs.Borrow.{Bor}
-use denote.Triple.Both.{Both}
+use Rattle.rows.specs.Lent.{Lent}
 use Rattle.laws.specs.Pick.{pick}
 use Rattle.sizes.specs.Sizes.{most_dead}
 use Rattle.faces.specs.Set.{has_face, faces_where}
@@ -52,5 +51,5 @@ unfoldable pub noted_one : Fate → ℕ → ℕ → Entry → List (List ℕ)
 noted_one x now f e = given [] (λ r. row_of (happens x now e (record { face = f; what = r })) ∷ []) (slot f e.requests)
 
 -- lines that join the dead nonce list that a function was lent, with its answer
-abbrev pub Joins : Both (Bor (List (List ℕ))) (Bor (List (List ℕ))) → Ring → Ring → List Line → Type 0
-Joins lines r ring news = dead.view lines.exit.now r ≡ joined_all most_dead (dead.view lines.entry.now ring) news
+abbrev pub Joins : Lent (List (List ℕ)) → Ring → Ring → List Line → Type 0
+Joins lines r ring news = dead.view lines.exit r ≡ joined_all most_dead (dead.view lines.entry ring) news

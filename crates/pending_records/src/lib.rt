@@ -16,6 +16,7 @@ ghost use Rattle.happenings.specs.Noted.{most_rows, fate_in, Noted};
 ghost use Rattle.pending_entry.specs.Places.View.{request_at, before, after};
 ghost use Rattle.pending_records.specs.Operations.{overdue_faces, nacks_in, nacks_of, noted, noted_split, noted_one, Joins};
 ghost use Rattle.records.specs.Closing.{own_line_by};
+ghost use Rattle.rows.specs.Lent.{lent, shown};
 ghost use Rattle.pending_records.specs.Places.Walk.{is_over, column_at, newest_in, sent_in, earlier_face, rows_of};
 
 use dead::{Lines, Ring, join};
@@ -75,15 +76,15 @@ fn over_in(set: u64, recs: &Records, time: u64) -> u64
 
 // The faces whose requests are over.
 pub fn overdue(head: &Head, recs: &Records, time: u64) -> u64
-    ensures { (nm : List ℕ) → result ≡ overdue_faces most_faces time (before nm head recs) }
+    ensures { (nm : List ℕ) → result ≡ overdue_faces most_faces time (before nm (shown head) (shown recs)) }
 {
     over_in(head[ASKING], recs, time)
 }
 
 // Ends the requests that are over; the set of their faces.
 pub fn age(head: &mut Head, recs: &Records, time: u64) -> u64
-    ensures by_index { (nm : List ℕ) → after nm head recs ≡ aged_entry time (before nm head recs) }
-    ensures by_index_2 { (nm : List ℕ) → result ≡ overdue_faces most_faces time (before nm head recs) }
+    ensures by_index { (nm : List ℕ) → after nm (lent head) (shown recs) ≡ aged_entry time (before nm (lent head) (shown recs)) }
+    ensures by_index_2 { (nm : List ℕ) → result ≡ overdue_faces most_faces time (before nm (lent head) (shown recs)) }
 {
     let h = *head;
     let over = over_in(h[ASKING], recs, time);
@@ -117,7 +118,7 @@ fn column_has(set: u64, recs: &Records, column: usize, nonce: u64) -> bool
 
 // Whether a nonce stands in some in-record or out-record.
 pub fn has_nonce(head: &Head, recs: &Records, nonce: u64) -> bool
-    ensures { (nm : List ℕ) → result ≡ has_nonce nonce (before nm head recs) }
+    ensures { (nm : List ℕ) → result ≡ has_nonce nonce (before nm (shown head) (shown recs)) }
 {
     if column_has(head[ASKING], recs, NONCE, nonce) {
         return true;
@@ -162,7 +163,7 @@ fn is_recent(sent: u64, time: u64) -> bool
 
 // "If the newest out-record was sent under 100 ms ago, send nothing."
 pub fn is_suppressed(head: &Head, recs: &Records, time: u64) -> bool
-    ensures { (nm : List ℕ) → result ≡ is_suppressed time (before nm head recs) }
+    ensures { (nm : List ℕ) → result ≡ is_suppressed time (before nm (shown head) (shown recs)) }
 {
     match newest_time(head[SENT], recs) {
         Newest::None => false,
@@ -189,7 +190,7 @@ fn earlier(recs: &Records, best: usize, f: usize) -> usize
 
 // The face of a set with the earliest out-record, "ties to the lower face"; 0 where none has one.
 pub fn earliest(head: &Head, recs: &Records, set: u64) -> usize
-    ensures { (nm : List ℕ) → result ≡ given 0 (λ f. f) (earliest_of (has_face most_faces set) (before nm head recs)) }
+    ensures { (nm : List ℕ) → result ≡ given 0 (λ f. f) (earliest_of (has_face most_faces set) (before nm (shown head) (shown recs))) }
 {
     let mut best: usize = 0;
     let mut left = common(head[SENT], set);
@@ -217,7 +218,7 @@ fn lesser(a: u64, b: u64) -> u64
 
 // Whether all out-records are Nacked, and then "the smallest nonzero reason, or 0".
 pub fn all_nacked(head: &Head, recs: &Records) -> Nacks
-    ensures { (nm : List ℕ) → nacks_in result ≡ nacks_of (before nm head recs) }
+    ensures { (nm : List ℕ) → nacks_in result ≡ nacks_of (before nm (shown head) (shown recs)) }
 {
     let mut reason: u64 = 0;
     let mut left = head[SENT];
@@ -245,7 +246,7 @@ pub fn bury(
     start: u64,
     time: u64,
 ) -> Ring
-    ensures { Joins lines result ring (buried_by (fingerprint start) time (before name.now head recs)) }
+    ensures { Joins (lent lines) result ring (buried_by (fingerprint start) time (before name.now (shown head) (shown recs))) }
 {
     let own = part(name, head[LENGTH]);
     let mut ring = ring;
@@ -271,7 +272,7 @@ pub fn bury_face(
     time: u64,
     face: usize,
 ) -> Ring
-    ensures { Joins lines result ring (own_line_by (fingerprint start) time face (before name.now head recs)) }
+    ensures { Joins (lent lines) result ring (own_line_by (fingerprint start) time face (before name.now (shown head) (shown recs))) }
 {
     if has(head[SENT], face) {
         let own = part(name, head[LENGTH]);
@@ -304,7 +305,7 @@ fn note_words(
     own: u64,
     fate: u64,
 ) -> usize
-    ensures { Noted rows result at (rows_of most_faces class (λ f. pick (has_face most_faces special f) own fate) set recs.now) }
+    ensures { Noted (lent rows) result at (rows_of most_faces class (λ f. pick (has_face most_faces special f) own fate) set recs.now) }
 {
     has_all_rows(*rows);
     let mut left = set;
@@ -336,7 +337,8 @@ pub fn note_requests(
     set: u64,
     fate: Fate,
 ) -> usize
-    ensures { (nm : List ℕ) (t : ℕ) → Noted rows result at (noted (fate_in fate) t (has_face most_faces set) (before nm head recs)) }
+    ensures { (nm : List ℕ) (t : ℕ) → Noted (lent rows) result at (noted (fate_in fate) t (has_face most_faces set) (before nm (shown head)
+        (shown recs))) }
 {
     let word = number(fate);
     note_words(
@@ -362,7 +364,8 @@ pub fn note_by_face(
     own: Fate,
     fate: Fate,
 ) -> usize
-    ensures { (nm : List ℕ) (t : ℕ) → Noted rows result at (noted_split most_faces set special own fate t (before nm head recs)) }
+    ensures { (nm : List ℕ) (t : ℕ) → Noted (lent rows) result at (noted_split most_faces set special own fate t (before nm (shown head)
+        (shown recs))) }
 {
     let a = number(own);
     let b = number(fate);
@@ -387,7 +390,7 @@ pub fn note_face(
     face: usize,
     fate: Fate,
 ) -> usize
-    ensures { (nm : List ℕ) (t : ℕ) → Noted rows result at (noted_one (fate_in fate) t face (before nm head recs)) }
+    ensures { (nm : List ℕ) (t : ℕ) → Noted (lent rows) result at (noted_one (fate_in fate) t face (before nm (shown head) (shown recs))) }
 {
     if has(head[ASKING], face) {
         let r = recs[face - 1];

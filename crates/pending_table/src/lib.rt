@@ -11,6 +11,7 @@ ghost use Rattle.sizes.specs.Sizes.{most_faces, most_entries, most_name};
 ghost use Rattle.records.specs.Class.{class_of};
 ghost use Rattle.records.specs.Slots.{given};
 ghost use Rattle.records.specs.Entry.{is_known, matches, room_taken};
+ghost use Rattle.rows.specs.Lent.{lent, shown};
 ghost use Rattle.pending_entry.specs.Places.View as entry;
 ghost use Rattle.pending_entry.specs.Operations.{bare_entry};
 ghost use Rattle.pending_table.specs.Places.View.{view, before, after, entry_at, row_held, place_of, place_then, handle_of, marks_of};
@@ -97,7 +98,7 @@ pub fn empty() -> Pending
 
 // How many entries there are.
 pub fn size(names: &Names, heads: &Heads, recs: &Records, numbers: &Numbers, s: Pending) -> usize
-    ensures { result ≡ length (before names heads recs numbers s) }
+    ensures { result ≡ length (before (shown names) (shown heads) (shown recs) (shown numbers) s) }
 {
     u64::count_ones(s.used) as usize
 }
@@ -133,8 +134,8 @@ pub fn find(
     prefix: bool,
     fresh: bool,
 ) -> Handle
-    ensures { Finds (place_of numbers s) (handle_of numbers s)
-        (index_of (is_known name.now prefix fresh) (before names heads recs numbers s)) result }
+    ensures { Finds (place_of (shown numbers) s) (handle_of (shown numbers) s)
+        (index_of (is_known name.now prefix fresh) (before (shown names) (shown heads) (shown recs) (shown numbers) s)) result }
 {
     let mut left = s.used;
     let mut best = ENTRIES;
@@ -171,7 +172,7 @@ pub fn is_there(
     s: Pending,
     h: Handle,
 ) -> bool
-    ensures { result ≡ ltb (place_of numbers s h) (length (before names heads recs numbers s)) }
+    ensures { result ≡ ltb (place_of (shown numbers) s h) (length (before (shown names) (shown heads) (shown recs) (shown numbers) s)) }
 {
     has(s.used, h.row)
 }
@@ -216,8 +217,10 @@ pub fn open(
     class: u64,
 ) -> Opened
     ensures { Opens result (bare_entry most_faces name.now prefix fresh (class_of class))
-        (before names heads recs numbers s) (after names heads recs numbers result.pending)
-        (place_of numbers s) (place_then numbers result.pending) (marks_of numbers s) (marks_then numbers result.pending) }
+        (before (lent names) (lent heads) (shown recs) (lent numbers) s) (after (lent names) (lent heads) (shown recs)
+        (lent numbers) result.pending)
+        (place_of (lent numbers) s) (place_then (lent numbers) result.pending) (marks_of (lent numbers) s) (marks_then
+        (lent numbers) result.pending) }
 {
     let used = s.used;
     let row = free(used);
@@ -252,8 +255,9 @@ pub fn take_out(
     s: Pending,
     h: Handle,
 ) -> Pending
-    ensures { TakesOut h (before names heads recs numbers s) (after names heads recs numbers result)
-        (place_of numbers s) (place_then numbers result) (marks_of numbers s) (marks_then numbers result) }
+    ensures { TakesOut h (before (shown names) (shown heads) (shown recs) (shown numbers) s) (after (shown names) (shown heads)
+        (shown recs) (shown numbers) result)
+        (place_of (shown numbers) s) (place_then (shown numbers) result) (marks_of (shown numbers) s) (marks_then (shown numbers) result) }
 {
     Pending {
         used: remove(s.used, h.row),
@@ -269,7 +273,7 @@ pub fn name_of<'a>(
     s: Pending,
     h: Handle,
 ) -> &'a [u8]
-    ensures { result.now ≡ given [] (λ e. e.name) (entry_at names heads recs numbers s h) }
+    ensures { result.now ≡ given [] (λ e. e.name) (entry_at (shown names) (shown heads) (shown recs) (shown numbers) s h) }
 {
     let row = row_of(s, h);
     if row < ENTRIES {
@@ -287,7 +291,7 @@ pub fn facts_of(
     s: Pending,
     h: Handle,
 ) -> Facts
-    ensures { result ≡ given nothing facts_of (entry_at names heads recs numbers s h) }
+    ensures { result ≡ given nothing facts_of (entry_at (shown names) (shown heads) (shown recs) (shown numbers) s h) }
 {
     let row = row_of(s, h);
     if row < ENTRIES {
@@ -327,7 +331,8 @@ pub fn matching(
     s: Pending,
     name: &[u8],
 ) -> Chosen
-    ensures { marks_of numbers s result ≡ map (matches name.now) (before names heads recs numbers s) }
+    ensures { marks_of (shown numbers) s result ≡ map (matches name.now) (before (shown names) (shown heads) (shown recs)
+        (shown numbers) s) }
 {
     let mut left = s.used;
     let mut rows = left;
@@ -342,14 +347,14 @@ pub fn matching(
 
 // The choice of all entries.
 pub fn all(names: &Names, heads: &Heads, recs: &Records, numbers: &Numbers, s: Pending) -> Chosen
-    ensures { marks_of numbers s result ≡ map (λ _. true) (before names heads recs numbers s) }
+    ensures { marks_of (shown numbers) s result ≡ map (λ _. true) (before (shown names) (shown heads) (shown recs) (shown numbers) s) }
 {
     Chosen { rows: s.used }
 }
 
 // Of the chosen entries the one that was opened first, or the handle of no entry.
 pub fn next(numbers: &Numbers, s: Pending, c: Chosen) -> Handle
-    ensures { Finds (place_of numbers s) (handle_of numbers s) (index_of (λ b. b) (marks_of numbers s c)) result }
+    ensures { Finds (place_of (shown numbers) s) (handle_of (shown numbers) s) (index_of (λ b. b) (marks_of (shown numbers) s c)) result }
 {
     Handle {
         row: least(numbers, s.used & c.rows),
@@ -358,7 +363,7 @@ pub fn next(numbers: &Numbers, s: Pending, c: Chosen) -> Handle
 
 // The choice without a handle's entry.
 pub fn rest(numbers: &Numbers, s: Pending, c: Chosen, h: Handle) -> Chosen
-    ensures { marks_of numbers s result ≡ on_at (place_of numbers s h) (λ _. false) (marks_of numbers s c) }
+    ensures { marks_of (shown numbers) s result ≡ on_at (place_of (shown numbers) s h) (λ _. false) (marks_of (shown numbers) s c) }
 {
     Chosen {
         rows: remove(c.rows, h.row),
@@ -410,7 +415,7 @@ pub fn use_by_class(
     numbers: &Numbers,
     s: Pending,
 ) -> Uses
-    ensures { result ≡ uses_of (before names heads recs numbers s) }
+    ensures { result ≡ uses_of (before (shown names) (shown heads) (shown recs) (shown numbers) s) }
 {
     let mut u = Uses {
         alarm: 0,
@@ -448,7 +453,8 @@ pub fn has_room(
     s: Pending,
     class: u64,
 ) -> bool
-    ensures { result ≡ leb (room_taken (before names heads recs numbers s ++ (bare_entry most_faces [] false false (class_of class) ∷ [])))
+    ensures { result ≡ leb (room_taken (before (shown names) (shown heads) (shown recs) (shown numbers) s ++
+        (bare_entry most_faces [] false false (class_of class) ∷ [])))
         most_entries }
 {
     let u = use_by_class(names, heads, recs, numbers, s);

@@ -9,6 +9,7 @@ ghost use Rattle.faces.specs.Set.{has_face};
 ghost use Rattle.records.specs.Class.{class_of};
 ghost use Rattle.records.specs.Slots.{is_some, given};
 ghost use Rattle.records.specs.Route.{route_of, with_hop, hop_at, cheapest_of};
+ghost use Rattle.rows.specs.Lent.{lent, shown};
 ghost use Rattle.routes.specs.Places.View.{view, state_of, before, after, placed, found, route_row};
 ghost use Rattle.routes.specs.Places.Hop.{least_of};
 ghost use Rattle.routes.specs.Operations.{Sets, longest_at, hops_of, class_word};
@@ -63,7 +64,8 @@ pub fn empty() -> Routes
 
 // The route of a prefix, or none.
 pub fn find(names: &Names, heads: &Heads, costs: &Costs, routes: Routes, prefix: &[u8]) -> Handle
-    ensures { placed names heads costs routes result ≡ route_of prefix.now (before names heads costs routes) }
+    ensures { placed (shown names) (shown heads) (shown costs) routes result ≡ route_of prefix.now (before (shown names) (shown heads)
+        (shown costs) routes) }
 {
     let n = clamped(routes.count, ROUTES);
     let mut i: usize = 0;
@@ -78,7 +80,7 @@ pub fn find(names: &Names, heads: &Heads, costs: &Costs, routes: Routes, prefix:
 
 // Whether a handle stands for a route.
 pub fn is_there(names: &Names, heads: &Heads, costs: &Costs, routes: Routes, route: Handle) -> bool
-    ensures { result ≡ is_some (found names heads costs routes route) }
+    ensures { result ≡ is_some (found (shown names) (shown heads) (shown costs) routes route) }
 {
     if route.at < clamped(routes.count, ROUTES) {
         return true;
@@ -135,7 +137,8 @@ pub fn set(
     prefix: &[u8],
     class: u64,
 ) -> Settled
-    ensures { Sets most_faces result (after names heads costs result.routes) prefix.now (class_of class) (before names heads costs routes) }
+    ensures { Sets most_faces result (after (lent names) (lent heads) (shown costs) result.routes) prefix.now (class_of class) (before
+        (lent names) (lent heads) (shown costs) routes) }
 {
     let n = clamped(routes.count, ROUTES);
     let known = find(names, heads, costs, routes, prefix);
@@ -167,8 +170,9 @@ pub fn remove(
     routes: Routes,
     route: Handle,
 ) -> Routes
-    ensures result_value { after names heads costs result ≡ without (placed names heads costs routes route) (before names heads costs routes) }
-    ensures value { result ≡ state_of (after names heads costs result) }
+    ensures result_value { after (lent names) (lent heads) (lent costs) result ≡ without (placed (lent names) (lent heads)
+        (lent costs) routes route) (before (lent names) (lent heads) (lent costs) routes) }
+    ensures value { result ≡ state_of (after (lent names) (lent heads) (lent costs) result) }
 {
     let n = clamped(routes.count, ROUTES);
     let i = route.at;
@@ -219,8 +223,9 @@ pub fn add_hop(
     face: usize,
     cost: u64,
 )
-    ensures { after names heads costs routes
-        ≡ on_at (placed names heads costs routes route) (with_hop face (some cost)) (before names heads costs routes) }
+    ensures { after (shown names) (lent heads) (lent costs) routes
+        ≡ on_at (placed (shown names) (lent heads) (lent costs) routes route) (with_hop face (some cost)) (before (shown names)
+        (lent heads) (lent costs) routes) }
 {
     if face == 0 {
         return;
@@ -245,8 +250,9 @@ pub fn drop_hop(
     route: Handle,
     face: usize,
 )
-    ensures { after names heads costs routes
-        ≡ on_at (placed names heads costs routes route) (with_hop face none) (before names heads costs routes) }
+    ensures { after (shown names) (lent heads) (shown costs) routes
+        ≡ on_at (placed (shown names) (lent heads) (shown costs) routes route) (with_hop face none) (before (shown names) (lent heads)
+        (shown costs) routes) }
 {
     let i = route.at;
     if i < clamped(routes.count, ROUTES) {
@@ -265,7 +271,8 @@ pub fn has_hop(
     route: Handle,
     face: usize,
 ) -> bool
-    ensures { result ≡ is_some (hop_at face (placed names heads costs routes route) (before names heads costs routes)) }
+    ensures { result ≡ is_some (hop_at face (placed (shown names) (shown heads) (shown costs) routes route) (before (shown names)
+        (shown heads) (shown costs) routes)) }
 {
     let i = route.at;
     if i < clamped(routes.count, ROUTES) {
@@ -276,7 +283,8 @@ pub fn has_hop(
 
 // A face closes: "Its next hops go too".
 pub fn drop_face(names: &Names, heads: &mut Heads, costs: &Costs, routes: Routes, face: usize)
-    ensures { after names heads costs routes ≡ map (with_hop face none) (before names heads costs routes) }
+    ensures { after (shown names) (lent heads) (shown costs) routes ≡ map (with_hop face none) (before (shown names) (lent heads)
+        (shown costs) routes) }
 {
     let n = clamped(routes.count, ROUTES);
     let mut i: usize = 0;
@@ -288,7 +296,8 @@ pub fn drop_face(names: &Names, heads: &mut Heads, costs: &Costs, routes: Routes
 
 // "the longest matching route" for a name, or none.
 pub fn longest(names: &Names, heads: &Heads, costs: &Costs, routes: Routes, name: &[u8]) -> Handle
-    ensures { placed names heads costs routes result ≡ longest_at name.now (before names heads costs routes) }
+    ensures { placed (shown names) (shown heads) (shown costs) routes result ≡ longest_at name.now (before (shown names) (shown heads)
+        (shown costs) routes) }
 {
     // From the last route to the first: what was found so far gives way to a match that is no shorter.
     let n = clamped(routes.count, ROUTES);
@@ -311,7 +320,7 @@ pub fn longest(names: &Names, heads: &Heads, costs: &Costs, routes: Routes, name
 
 // The class word of a route; 0, which is no class, where there is none.
 pub fn class_of(names: &Names, heads: &Heads, costs: &Costs, routes: Routes, route: Handle) -> u64
-    ensures { result ≡ given 0 class_word (found names heads costs routes route) }
+    ensures { result ≡ given 0 class_word (found (shown names) (shown heads) (shown costs) routes route) }
 {
     let i = route.at;
     if i < clamped(routes.count, ROUTES) {
@@ -322,7 +331,7 @@ pub fn class_of(names: &Names, heads: &Heads, costs: &Costs, routes: Routes, rou
 
 // The set of the next hops of a route.
 pub fn hops_of(names: &Names, heads: &Heads, costs: &Costs, routes: Routes, route: Handle) -> u64
-    ensures { result ≡ given 0 (hops_of most_faces) (found names heads costs routes route) }
+    ensures { result ≡ given 0 (hops_of most_faces) (found (shown names) (shown heads) (shown costs) routes route) }
 {
     let i = route.at;
     if i < clamped(routes.count, ROUTES) {
@@ -364,7 +373,8 @@ pub fn cheapest(
     route: Handle,
     set: u64,
 ) -> usize
-    ensures { result ≡ given 0 (λ f. f) (given none (cheapest_of (has_face most_faces set)) (found names heads costs routes route)) }
+    ensures { result ≡ given 0 (λ f. f) (given none (cheapest_of (has_face most_faces set)) (found (shown names) (shown heads)
+        (shown costs) routes route)) }
 {
     let i = route.at;
     if i < clamped(routes.count, ROUTES) {

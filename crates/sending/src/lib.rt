@@ -12,6 +12,7 @@ ghost use Rattle.routes.specs.Places.View.{before};
 ghost use Rattle.rules.specs.Outcome.{interest, dat, nack, route_class};
 ghost use Rattle.packets.specs.Places.View.{lowered};
 ghost use Rattle.writing.specs.Written.{nack_bytes};
+ghost use Rattle.rows.specs.Lent.{lent, shown};
 ghost use Rattle.sending.specs.Rows.{if_room, put, copies_from};
 ghost use Rattle.sending.specs.Places.Sheet.{note_of, sheet, PacksIn, only_send, nack_sends};
 ghost use Rattle.sending.specs.Places.Copies.{NotesCopies};
@@ -96,7 +97,7 @@ pub fn send_nack(
     fresh: bool,
     nonce: u64,
 ) -> usize
-    ensures { PacksIn sends out result (only_send out
+    ensures { PacksIn (lent sends) (lent out) result (only_send (lent out)
         (record { face = face; kind = nack; cls = class_of class; bytes = nack_bytes reason name.now prefix fresh nonce })) }
 {
     let none = Sent { count: 0, at: 0 };
@@ -115,8 +116,8 @@ pub fn send_interest(
     bare: &[u8],
     hop: Hop,
 ) -> usize
-    ensures { PacksIn sends out result
-        (only_send out (record { face = face; kind = interest; cls = class_of class; bytes = lowered bare.now hop })) }
+    ensures { PacksIn (lent sends) (lent out) result
+        (only_send (lent out) (record { face = face; kind = interest; cls = class_of class; bytes = lowered bare.now hop })) }
 {
     match write_interest(out, 0, bare, hop) {
         Put::Full => 0,
@@ -129,8 +130,8 @@ pub fn send_interest(
 
 // The one Data of an event, for one face, where there is room.
 pub fn send_data(sends: &mut Sends, out: &mut [u8], face: usize, class: u64, bare: &[u8]) -> usize
-    ensures { PacksIn sends out result
-        (only_send out (record { face = face; kind = dat; cls = class_of class; bytes = bare.now })) }
+    ensures { PacksIn (lent sends) (lent out) result
+        (only_send (lent out) (record { face = face; kind = dat; cls = class_of class; bytes = bare.now })) }
 {
     match write_data(out, 0, bare) {
         Put::Full => 0,
@@ -166,7 +167,7 @@ pub fn send_copies(
     classes: &[u64; FACES],
     bare: &[u8],
 ) -> usize
-    ensures { PacksIn sends out result (if_room bare.now out.old
+    ensures { PacksIn (lent sends) (lent out) result (if_room bare.now out.old
         (copies_from (has_face most_faces set) classes.now bare.now 1 most_faces)) }
 {
     if FACES < lowest(set) {
@@ -186,7 +187,7 @@ pub fn class_for(
     known: routes::Routes,
     name: &[u8],
 ) -> u64
-    ensures { result ≡ class_number (route_class (longest name.now (before prefixes settings costs known))) }
+    ensures { result ≡ class_number (route_class (longest name.now (before (shown prefixes) (shown settings) (shown costs) known))) }
 {
     let route = routes::longest(prefixes, settings, costs, known, name);
     if routes::is_there(prefixes, settings, costs, known, route) {
@@ -211,8 +212,8 @@ pub fn refuse(
     fresh: bool,
     nonce: u64,
 ) -> usize
-    ensures { PacksIn sends out result (if_room (nack_bytes reason name.now prefix fresh nonce) out.old
-        (nack_sends (view faces) (before prefixes settings costs known) face reason name.now prefix fresh nonce)) }
+    ensures { PacksIn (lent sends) (lent out) result (if_room (nack_bytes reason name.now prefix fresh nonce) out.old
+        (nack_sends (view faces) (before (shown prefixes) (shown settings) (shown costs) known) face reason name.now prefix fresh nonce)) }
 {
     if faces.is_peer(face) {
         let class = class_for(prefixes, settings, costs, known, name);

@@ -6,6 +6,7 @@ ghost use Rattle.laws.specs.Lists.{index_of, without};
 ghost use Rattle.sizes.specs.Sizes.{most_packet, most_stored};
 ghost use Rattle.records.specs.Slots.{given, is_some};
 ghost use Rattle.records.specs.Stored.{serves, is_before, earlier, lookup};
+ghost use Rattle.rows.specs.Lent.{lent, shown};
 ghost use Rattle.store.specs.Places.View.{view, state_of, before, after, placed, found, data_of, stored_at};
 ghost use Rattle.store.specs.Operations.{Puts, recent};
 ghost use Rattle.store.specs.Places.Put.{is_named, leaver};
@@ -59,7 +60,7 @@ pub fn empty() -> Store
 
 // Whether a handle stands for a Data.
 pub fn is_there(packets: &Packets, heads: &Heads, store: Store, taken: Handle) -> bool
-    ensures { result ≡ is_some (found packets heads store taken) }
+    ensures { result ≡ is_some (found (shown packets) (shown heads) store taken) }
 {
     if taken.at < clamped(store.count, STORED) {
         return true;
@@ -83,7 +84,7 @@ fn bytes_in(row: &[u8; PACKET], len: u64) -> &[u8]
 
 // The bytes of a Data, where they stand; none where there is no Data.
 pub fn bytes_of<'a>(packets: &'a Packets, heads: &Heads, store: Store, taken: Handle) -> &'a [u8]
-    ensures result_value { result.now ≡ given [] (λ d. d.bytes) (found packets heads store taken) }
+    ensures result_value { result.now ≡ given [] (λ d. d.bytes) (found (shown packets) (shown heads) store taken) }
     ensures result_len_bound { length result.now ≤ most_packet }
 {
     let i = taken.at;
@@ -104,7 +105,7 @@ fn name_at<'a>(packets: &'a Packets, heads: &Heads, i: usize) -> &'a [u8]
 
 // The place of the Data with a name, else the number of Data.
 fn find(packets: &Packets, heads: &Heads, store: Store, name: &[u8]) -> usize
-    ensures { result ≡ index_of (is_named name.now) (before packets heads store) }
+    ensures { result ≡ index_of (is_named name.now) (before (shown packets) (shown heads) store) }
 {
     let n = clamped(store.count, STORED);
     let mut i: usize = 0;
@@ -120,7 +121,7 @@ fn find(packets: &Packets, heads: &Heads, store: Store, name: &[u8]) -> usize
 // The place of the Data that gives way to a new one of a name: the equal name's, else, in a full store, that of the least recent; else the
 // number of Data.
 fn leaving(packets: &Packets, heads: &Heads, store: Store, name: &[u8]) -> usize
-    ensures value { result ≡ leaver name.now (before packets heads store) }
+    ensures value { result ≡ leaver name.now (before (shown packets) (shown heads) store) }
     ensures upper_bound { result < most_stored }
 {
     let i = find(packets, heads, store, name);
@@ -140,7 +141,8 @@ fn has_all_heads(heads: Heads)
 // The Data at a place goes, and those after it move one place down; a place past the last changes nothing. How many there are then.
 fn take_out(packets: &mut Packets, heads: &mut Heads, store: Store, i: usize) -> usize
     requires { i < most_stored }
-    ensures result_value { after packets heads (record { count = result }) ≡ without i (before packets heads store) }
+    ensures result_value { after (lent packets) (lent heads) (record { count = result }) ≡ without i (before (lent packets)
+        (lent heads) store) }
     ensures upper_bound { result < most_stored }
 {
     let n = clamped(store.count, STORED);
@@ -177,7 +179,8 @@ pub fn put(
     time: u64,
     freshness: u64,
 ) -> Kept
-    ensures { Puts result (after packets heads result.store) (data_of bytes.now time freshness) (before packets heads store) }
+    ensures { Puts result (after (lent packets) (lent heads) result.store) (data_of bytes.now time freshness) (before (lent packets)
+        (lent heads) store) }
 {
     if PACKET < bytes.len() {
         let all = clamped(store.count, STORED);
@@ -284,9 +287,9 @@ pub fn look(
     fresh: bool,
     time: u64,
 ) -> Handle
-    ensures { placed packets heads store result
-        ≡ given (length (before packets heads store)) (λ h. h.place)
-        (lookup time name.now prefix fresh (before packets heads store)) }
+    ensures { placed (shown packets) (shown heads) store result
+        ≡ given (length (before (shown packets) (shown heads) store)) (λ h. h.place)
+        (lookup time name.now prefix fresh (before (shown packets) (shown heads) store)) }
 {
     let n = clamped(store.count, STORED);
     let mut best = n;
@@ -302,8 +305,9 @@ pub fn look(
 
 // A hit becomes the most recent; a handle that stands for no Data changes nothing. The store then.
 pub fn touch(packets: &mut Packets, heads: &mut Heads, store: Store, taken: Handle) -> Store
-    ensures result_value { after packets heads result ≡ recent (placed packets heads store taken) (before packets heads store) }
-    ensures value { result ≡ state_of (after packets heads result) }
+    ensures result_value { after (lent packets) (lent heads) result ≡ recent (placed (lent packets) (lent heads) store taken) (before
+        (lent packets) (lent heads) store) }
+    ensures value { result ≡ state_of (after (lent packets) (lent heads) result) }
 {
     let n = clamped(store.count, STORED);
     let i = taken.at;

@@ -17,6 +17,7 @@ ghost use Rattle.coming.specs.Places.Found.{limit_of};
 ghost use Rattle.rules.specs.Node.{Node};
 ghost use Rattle.rules.specs.Interest as rules;
 ghost use Rattle.rules.specs.Interest.{Arrival, hop_is_zero, spent, entry_loops, from_local_face};
+ghost use Rattle.rows.specs.Lent.{shown};
 ghost use Rattle.ways.specs.Ways.{loops_by, resends_by};
 ghost use Rattle.ways.specs.Places.Stays.{stays_local};
 ghost use Rattle.ways.specs.Places.Next.{next_of};
@@ -119,7 +120,8 @@ fn is_own(
     face: usize,
     nonce: u64,
 ) -> bool
-    ensures { result ≡ given false (λ e. is_peer (view faces) face && own_nonce face nonce e) (entry_at names heads recs numbers s h) }
+    ensures { result ≡ given false (λ e. is_peer (view faces) face && own_nonce face nonce e) (entry_at (shown names) (shown heads)
+        (shown recs) (shown numbers) s h) }
 {
     if faces.is_peer(face) {
         return pending_handle::own_nonce(names, heads, recs, numbers, s, h, face, nonce);
@@ -140,7 +142,7 @@ fn entry_loops(
     nonce: u64,
 ) -> bool
     ensures { (n : Node) (a : Arrival) → n.faces ≡ view faces → a.face ≡ face → a.ask.nonce ≡ nonce
-        → result ≡ holds (entry_loops n a) (entry_at names heads recs numbers s h) }
+        → result ≡ holds (entry_loops n a) (entry_at (shown names) (shown heads) (shown recs) (shown numbers) s h) }
 {
     if is_own(names, heads, recs, numbers, s, h, faces, face, nonce) {
         return false;
@@ -163,8 +165,8 @@ pub fn loops(
     nonce: u64,
 ) -> bool
     ensures { (n : Node) (a : Arrival) → n.faces ≡ view small.faces
-        → n.dead ≡ dead.before lines small.ring → a.face ≡ face → a.ask.name ≡ name.now → a.ask.nonce ≡ nonce
-        → result ≡ loops_by start small.time n a (entry_at names heads recs numbers small.pending h) }
+        → n.dead ≡ dead.before (shown lines) small.ring → a.face ≡ face → a.ask.name ≡ name.now → a.ask.nonce ≡ nonce
+        → result ≡ loops_by start small.time n a (entry_at (shown names) (shown heads) (shown recs) (shown numbers) small.pending h) }
 {
     let s = small.pending;
     let faces = small.faces;
@@ -186,7 +188,8 @@ fn is_from_local(
     h: Handle,
     faces: Faces,
 ) -> bool
-    ensures { (n : Node) → n.faces ≡ view faces → result ≡ holds (from_local_face n) (entry_at names heads recs numbers s h) }
+    ensures { (n : Node) → n.faces ≡ view faces → result ≡ holds (from_local_face n) (entry_at (shown names) (shown heads) (shown recs)
+        (shown numbers) s h) }
 {
     let asking = pending_handle::asking_faces(names, heads, recs, numbers, s, h);
     common(asking, faces.all_local()) != 0
@@ -209,8 +212,8 @@ fn choose(
     may: u64,
 ) -> usize
     ensures { (p : ℕ → Bool) → may ≡ faces_where most_faces p
-        → result ≡ given 0 (λ f. f) (next_of p (longest name.now (routes.before prefixes settings costs known))
-        (entry_at names heads recs numbers s h)) }
+        → result ≡ given 0 (λ f. f) (next_of p (longest name.now (routes.before (shown prefixes) (shown settings) (shown costs) known))
+        (entry_at (shown names) (shown heads) (shown recs) (shown numbers) s h)) }
 {
     let route = routes::longest(prefixes, settings, costs, known, name);
     let unsent = pending_handle::unsent(names, heads, recs, numbers, s, h, may);
@@ -239,9 +242,10 @@ pub fn next_hop(
     hop: Hop,
 ) -> usize
     ensures { (n : Node) (a : Arrival) → n.faces ≡ view small.faces
-        → n.routes ≡ routes.before prefixes settings costs small.routes
+        → n.routes ≡ routes.before (shown prefixes) (shown settings) (shown costs) small.routes
         → a.face ≡ face → a.ask.name ≡ name.now → a.ask.hop ≡ limit_of hop
-        → result ≡ given 0 (λ f. f) (resends_by small.time n a (entry_at names heads recs numbers small.pending h)) }
+        → result ≡ given 0 (λ f. f) (resends_by small.time n a (entry_at (shown names) (shown heads) (shown recs)
+        (shown numbers) small.pending h)) }
 {
     let s = small.pending;
     let faces = small.faces;

@@ -38,11 +38,11 @@ view t r = tab (line_at t (r.at % most_dead)) 0 (min r.count most_dead)
 
 -- the lines as they were lent
 abbrev pub before : Lent (List (List ℕ)) → Ring → List Line
-before lines r = view lines.entry.now r
+before lines r = view lines.entry r
 
 -- the lines as they are left
 abbrev pub after : Lent (List (List ℕ)) → Ring → List Line
-after lines r = view lines.exit.now r
+after lines r = view lines.exit r
 
 -- how many lines a ring counts
 pub line_count : Ring → ℕ
@@ -137,7 +137,7 @@ module _ (now print : ℕ) (t : List (List ℕ)) (r : Ring) (k : ℕ) where
       rw (drop-cons (tab g 0 n) k (line 0 0) l, get_d_tab g 0 n k (line 0 0) h, zero-add k, add-one k)
 
   -- past the last line no fingerprint is live
-  pub view_dead_end : min r.count most_dead ≤ k → is_dead (λ x. x.now) print (drop k (view t r)) ≡ false
+  pub view_dead_end : min r.count most_dead ≤ k → is_dead now print (drop k (view t r)) ≡ false
   unfolding is_dead any_of
   view_dead_end h =
       let l : length (view t r) ≤ k = omega (arith, view_length t r) in

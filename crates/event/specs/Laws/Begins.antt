@@ -56,8 +56,8 @@ pub aged_came : (print : List ℕ → ℕ → ℕ) (time : ℕ) (s : Small) (r :
       made = made;
     }
     → Ages print time
-    (pending.before names heads recs numbers s.pending) (dead.before lines s.ring) rows.entry.now
-    (pending.after names heads recs numbers q) (dead.after lines ring) rows.exit.now made
+    (pending.before names heads recs numbers s.pending) (dead.before lines s.ring) rows.entry
+    (pending.after names heads recs numbers q) (dead.after lines ring) rows.exit made
     → Ageing print time s r names heads recs numbers lines rows
 aged_came print time s r names heads recs numbers lines rows q ring made e a =
     rw e (record { answer = refl; sent = refl; moved = refl; faces = refl; routes = refl; store = refl; ages = a })
@@ -112,27 +112,27 @@ module _ (time : ℕ) (bad : Bool) (y : Answer) (s : Small) (r : Came) (p g c k 
         prefixes = p;
         settings = g;
         costs = c;
-        names = names.entry.now;
-        heads = heads.entry.now;
-        recs = recs.entry.now;
-        numbers = numbers.entry.now;
+        names = names.entry;
+        heads = heads.entry;
+        recs = recs.entry;
+        numbers = numbers.entry;
         packets = k;
         uses = u;
-        lines = lines.entry.now;
+        lines = lines.entry;
       }))) r
       (node_of (record {
         small = r.small;
         prefixes = p;
         settings = g;
         costs = c;
-        names = names.exit.now;
-        heads = heads.exit.now;
-        recs = recs.exit.now;
-        numbers = numbers.exit.now;
+        names = names.exit;
+        heads = heads.exit;
+        recs = recs.exit;
+        numbers = numbers.exit;
         packets = k;
         uses = u;
-        lines = lines.exit.now;
-      })) (record { sends = ss; buffer = b; rows = rows.entry.now }) (record { sends = ss; buffer = b; rows = rows.exit.now })
+        lines = lines.exit;
+      })) (record { sends = ss; buffer = b; rows = rows.entry }) (record { sends = ss; buffer = b; rows = rows.exit })
   unfolding node_of
   begins_aged names heads recs numbers lines rows ss b q d a =
       comes_by _ _ _ _ _ _ _ (begun_aged _ _ _ _ _ _ q d)

@@ -27,5 +27,5 @@ pub record Ageing (print : List ℕ → ℕ → ℕ) (time : ℕ) (s : Small) (r
   pub routes : r.small.routes ≡ s.routes
   pub store : r.small.store ≡ s.store
   pub ages : Ages print time
-      (pending.before names heads recs numbers s.pending) (dead.before lines s.ring) rows.entry.now
-      (pending.after names heads recs numbers r.small.pending) (dead.after lines r.small.ring) rows.exit.now r.made
+      (pending.before names heads recs numbers s.pending) (dead.before lines s.ring) rows.entry
+      (pending.after names heads recs numbers r.small.pending) (dead.after lines r.small.ring) rows.exit r.made

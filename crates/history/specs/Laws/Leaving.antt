@@ -7,7 +7,8 @@ use Rattle.std.proofs.Math.Path.{refl, sym}
 use Rattle.std.proofs.Common.{◌∙◌, ap, inl, arith}
 use Rattle.std.proofs.Math.Bool.{or_comm}
 use mathlib.Core.List.{List, ◌∷◌, append-nil}
-use Rattle.std.proofs.Math.Logic.{Iff·rfl, inr}
+use mathlib.Core.Logic.Iff
+use Rattle.std.proofs.Math.Logic.{inr}
 use Rattle.std.proofs.Math.Option.{Option, none, some}
 use Rattle.std.proofs.lemmas.Bool.{not-true}
 use Rattle.answers.specs.declared.Answer.{Answer}
@@ -65,7 +66,7 @@ eligible_may : (n : Node) (a : Arrival) (l : Bool) (x : Entry) (h : ℕ) → (No
 unfolding eligible
 eligible_may n a l x h far e =
     let k = (tells_and (tells_and (tells_open n h) (tells_if (tells_eq h a.face) (tells_ad_hoc n a.face)))
-    (tells_if (tells_or (tells_or (tells_spent a.ask.hop) Iff·rfl) (tells_and Iff·rfl Iff·rfl)) (tells_local n h))).0
+    (tells_if (tells_or (tells_or (tells_spent a.ask.hop) Iff.rfl) (tells_and Iff.rfl Iff.rfl)) (tells_local n h))).0
     (rw (or_comm (is_local_face n.faces h)) at e) in
     record {
       there = k.0.0;

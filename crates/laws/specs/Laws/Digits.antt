@@ -137,14 +137,14 @@ ones_tally zero s = refl
 ones_tally (suc d) s = rw (ones_tally d (s / 2))
 
 -- to count the ones of a number below 2 ^ d, d digits are enough
-pub ones_in : (d s : ℕ) → s < 2 ^ d → ones_in d s ≡ ones s
+pub ones_in_lem : (d s : ℕ) → s < 2 ^ d → ones_in d s ≡ ones s
 unfolding ones_in
-ones_in zero s h = let z : s ≡ 0 = omega arith in rw z (unfold ones in refl)
-ones_in (suc d) s h = omega (arith, ones_step s, ones_in d (s / 2) (omega arith))
+ones_in_lem zero s h = let z : s ≡ 0 = omega arith in rw z (unfold ones in refl)
+ones_in_lem (suc d) s h = omega (arith, ones_step s, ones_in_lem d (s / 2) (omega arith))
 
 -- the count of ones of a set below 2 ^ d is the number of its members
 pub size_members : (d s : ℕ) → s < 2 ^ d → ones s ≡ tally d (λ f. digit f s)
-size_members d s h = sym (ones_in d s h) ∙ ones_tally d s
+size_members d s h = sym (ones_in_lem d s h) ∙ ones_tally d s
 
 -- the count of ones of the remainder by 2 ^ d is the number of members below d, of any set
 pub size_below : (d s : ℕ) → ones (s % 2 ^ d) ≡ tally d (λ f. digit f s)

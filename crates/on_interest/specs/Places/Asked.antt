@@ -34,28 +34,28 @@ abbrev pub beside_pending : Small → Small → Lent Table → Lent Table → Le
 beside_pending s s' p g c n h r m k u l = record {
   entry = record {
     small = s;
-    prefixes = p.entry.now;
-    settings = g.entry.now;
-    costs = c.entry.now;
+    prefixes = p.entry;
+    settings = g.entry;
+    costs = c.entry;
     names = n;
     heads = h;
     recs = r;
     numbers = m;
-    packets = k.entry.now;
-    uses = u.entry.now;
+    packets = k.entry;
+    uses = u.entry;
     lines = l;
   };
   exit = record {
     small = s';
-    prefixes = p.exit.now;
-    settings = g.exit.now;
-    costs = c.exit.now;
+    prefixes = p.exit;
+    settings = g.exit;
+    costs = c.exit;
     names = n;
     heads = h;
     recs = r;
     numbers = m;
-    packets = k.exit.now;
-    uses = u.exit.now;
+    packets = k.exit;
+    uses = u.exit;
     lines = l;
   };
 }
@@ -63,6 +63,6 @@ beside_pending s s' p g c n h r m k u l = record {
 -- the output of code that is not lent the rows of happenings
 abbrev pub beside_rows : Lent Table → Lent (List ℕ) → Table → Both Output Output
 beside_rows s b r = record {
-  entry = record { sends = s.entry.now; buffer = b.entry.now; rows = r };
-  exit = record { sends = s.exit.now; buffer = b.exit.now; rows = r };
+  entry = record { sends = s.entry; buffer = b.entry; rows = r };
+  exit = record { sends = s.exit; buffer = b.exit; rows = r };
 }

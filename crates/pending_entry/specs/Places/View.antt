@@ -3,8 +3,7 @@
 use Rattle.std.specs.Prelude.{ℕ, ◌-◌, ◌≡◌, List, [], get_or, take, eqb}
 use Rattle.std.proofs.Math.Path.{refl}
 use Rattle.std.proofs.Math.Option.{Option, none, some}
-use Rattle.std.specs.Borrow.{Bor}
-use denote.Triple.Both.{Both}
+use Rattle.rows.specs.Lent.{Lent}
 use Rattle.laws.specs.Pick.{pick}
 use Rattle.sizes.specs.Sizes.{most_faces}
 use Rattle.faces.specs.Slots.{slots_of}
@@ -43,12 +42,12 @@ abbrev pub view : List ℕ → List ℕ → List (List ℕ) → Entry
 view = view_for most_faces
 
 -- the entry that a function was lent, with any name
-abbrev pub before : List ℕ → Both (Bor (List ℕ)) (Bor (List ℕ)) → Both (Bor (List (List ℕ))) (Bor (List (List ℕ))) → Entry
-before name head recs = view name head.entry.now recs.entry.now
+abbrev pub before : List ℕ → Lent (List ℕ) → Lent (List (List ℕ)) → Entry
+before name head recs = view name head.entry recs.entry
 
 -- and the entry as it leaves it
-abbrev pub after : List ℕ → Both (Bor (List ℕ)) (Bor (List ℕ)) → Both (Bor (List (List ℕ))) (Bor (List (List ℕ))) → Entry
-after name head recs = view name head.exit.now recs.exit.now
+abbrev pub after : List ℕ → Lent (List ℕ) → Lent (List (List ℕ)) → Entry
+after name head recs = view name head.exit recs.exit
 
 module _ (n : ℕ) (name head : List ℕ) (recs : List (List ℕ)) where
   -- the name of an entry

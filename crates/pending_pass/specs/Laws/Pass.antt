@@ -14,7 +14,7 @@ use Rattle.sizes.specs.Sizes.{most_dead}
 use Rattle.records.specs.Slots.{at_place, each}
 use Rattle.records.specs.Laws.Place.{place_some}
 use Rattle.records.specs.Entry.{Entry}
-use Rattle.records.specs.Line.{Line, joined_all}
+use Rattle.records.specs.Line.{Line, joined, joined_all}
 use Rattle.happenings.specs.Noted.{most_rows, Notes}
 use Rattle.happenings.specs.Laws.Noted.{notes_none, notes_length, notes_then}
 use Rattle.pending_pass.specs.Places.Pass.{Work, notes, marked, after, passed, Turned, Passes, Passing}
@@ -23,7 +23,7 @@ use Rattle.pending_pass.specs.Places.Pass.{Work, notes, marked, after, passed, T
 pub joined_append : (size : ℕ) (ls xs ys : List Line) → joined_all size ls (xs ++ ys) ≡ joined_all size (joined_all size ls xs) ys
 unfolding joined_all
 joined_append size ls [] ys = refl
-joined_append size ls (x ∷ xs) ys = joined_append size _ xs ys
+joined_append size ls (x ∷ xs) ys = joined_append size (joined size ls x) xs ys
 
 -- the place of the first mark
 abbrev pub first_mark : List Bool → ℕ

@@ -73,18 +73,18 @@ view = view_for most_faces
 
 -- the entries that a function was lent
 abbrev pub before : Lent (List (List ℕ)) → Lent (List (List ℕ)) → Lent (List (List (List ℕ))) → Lent (List ℕ) → Pending → List Entry
-before names heads recs numbers s = view names.entry.now heads.entry.now recs.entry.now numbers.entry.now s
+before names heads recs numbers s = view names.entry heads.entry recs.entry numbers.entry s
 
 -- and the entries as it leaves them
 abbrev pub after : Lent (List (List ℕ)) → Lent (List (List ℕ)) → Lent (List (List (List ℕ))) → Lent (List ℕ) → Pending → List Entry
-after names heads recs numbers s = view names.exit.now heads.exit.now recs.exit.now numbers.exit.now s
+after names heads recs numbers s = view names.exit heads.exit recs.exit numbers.exit s
 
 -- a handle's place at entry, and at exit
 abbrev pub place_of : Lent (List ℕ) → Pending → Handle → ℕ
-place_of numbers s h = place numbers.entry.now s h
+place_of numbers s h = place numbers.entry s h
 
 abbrev pub place_then : Lent (List ℕ) → Pending → Handle → ℕ
-place_then numbers s h = place numbers.exit.now s h
+place_then numbers s h = place numbers.exit s h
 
 -- a handle's entry, if it has one
 abbrev pub entry_at : Lent (List (List ℕ)) → Lent (List (List ℕ)) → Lent (List (List (List ℕ))) → Lent (List ℕ) → Pending → Handle
@@ -93,14 +93,14 @@ entry_at names heads recs numbers s h = at_place (place_of numbers s h) (before 
 
 -- the handle of a place at entry
 abbrev pub handle_of : Lent (List ℕ) → Pending → ℕ → Handle
-handle_of numbers s i = handle_at numbers.entry.now s i
+handle_of numbers s i = handle_at numbers.entry s i
 
 -- the marks of a choice at entry, and at exit
 abbrev pub marks_of : Lent (List ℕ) → Pending → Chosen → List Bool
-marks_of numbers s c = marks numbers.entry.now s c
+marks_of numbers s c = marks numbers.entry s c
 
 abbrev pub marks_then : Lent (List ℕ) → Pending → Chosen → List Bool
-marks_then numbers s c = marks numbers.exit.now s c
+marks_then numbers s c = marks numbers.exit s c
 
 -- the element at a place of a list
 at_get_d : {A : Type 0} (i : ℕ) (l : List A) (d : A) → i < length l → at_place i l ≡ some (get_or l i d)

@@ -3,7 +3,8 @@
 use Rattle.std.specs.Prelude.{ℕ, zero, suc, ◌+◌, ◌≤◌, ◌<◌, ◌≡◌, ◌↔◌, ◌⊎◌, Bool, ◌&&◌, ◌||◌, not, length, get_or, drop, ltb, leb, eqb}
 use Rattle.std.proofs.Math.Path.{refl}
 use Rattle.std.proofs.Common.{sym, ap, ltb-true, leb-true, eqb-true, lt-ltb, le-leb, eq-eqb, arith, add-zero}
-use Rattle.std.proofs.Math.Logic.{inl, inr, ⊎_elim, Iff·trans}
+use mathlib.Core.Logic.Iff
+use Rattle.std.proofs.Math.Logic.{inl, inr, ⊎_elim}
 use Rattle.std.proofs.Math.Bool.{true, false, false≢true}
 use Rattle.std.specs.Bool.{beq}
 use mathlib.Core.List.Memᴰ
@@ -42,7 +43,7 @@ module _ {P Q : Type 0} where
 
   -- the same test, in other words
   pub tells_as : {b : Bool} → Tells b P → (P ↔ Q) → Tells b Q
-  tells_as p i = Iff·trans p i
+  tells_as p i = Iff.trans p i
 
 -- a test that fails
 pub tells_not : {P : Type 0} {b : Bool} → Tells b P → Tells (not b) (¬ P)

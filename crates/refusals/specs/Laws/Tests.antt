@@ -2,7 +2,8 @@
 -- Assumes nothing.
 use Rattle.std.specs.Prelude.{ℕ, suc, ◌+◌, ◌-◌, ◌≤◌, ◌<◌, ◌≡◌, refl, ◌⊎◌, Bool, true, false, ◌&&◌, ◌||◌, not, ltb, leb, eqb}
 use Rattle.std.proofs.Common.{sym, ◌∙◌, ap, lt-ltb, ltb-true, ltb-false, eqb-true, arith}
-use Rattle.std.proofs.Math.Logic.{Iff·rfl, inl, inr, ⊎_elim}
+use mathlib.Core.Logic.Iff
+use Rattle.std.proofs.Math.Logic.{inl, inr, ⊎_elim}
 use Rattle.std.proofs.lemmas.Bool.{false≢true, eqb-false}
 use Rattle.std.proofs.Math.Bool.{or_assoc, or_comm}
 use mathlib.Core.List.{List, [], ◌∷◌, ◌++◌}
@@ -62,7 +63,7 @@ module _ (n : Node) (f : ℕ) where
   -- whether it is local
   pub tells_local : Tells (is_local_face n.faces f) (Local n f)
   unfolding is_local_face
-  tells_local = tells_holds (λ x. Iff·rfl) (slot f n.faces)
+  tells_local = tells_holds (λ x. Iff.rfl) (slot f n.faces)
 
   -- whether it is point-to-point
   pub tells_peer : Tells (is_peer n.faces f) (PointToPoint n f)
@@ -296,7 +297,7 @@ tells_scope n w =
     tells_as
     (tells_packet
     (λ f l. tells_holds
-    (λ name. tells_and Iff·rfl (tells_not (tells_local n f))) (name_in (heard l))) w) (
+    (λ name. tells_and Iff.rfl (tells_not (tells_local n f))) (name_in (heard l))) w) (
       λ x. (x.0, heard x.1, comes_in_lem n x.0 _ w x.1 x.2 refl, (x.3.0, x.3.1, x.3.2.0), x.3.2.1),
       λ x. let y = hears_bytes n x.0 _ w x.2 in (x.0, y.0, y.1, (x.3.0, rw y.2 x.3.1, (x.3.2, x.4))),
     )
@@ -391,8 +392,8 @@ pub tells_serves : (now : ℕ) (i : Ask) (d : Stored) → Tells (serves now i.na
 unfolding serves
 tells_serves now i d =
     tells_and
-    (tells_or (tells_bytes i.name d.name) (tells_and Iff·rfl (tells_prefix i.name d.name)))
-    (tells_if Iff·rfl (tells_lt now (d.time + d.freshness)))
+    (tells_or (tells_bytes i.name d.name) (tells_and Iff.rfl (tells_prefix i.name d.name)))
+    (tells_if Iff.rfl (tells_lt now (d.time + d.freshness)))
 
 -- a lookup finds something where something serves
 lookup_any : (p : Stored → Bool) (k : ℕ) (ds : List Stored) → is_some (lookup_from p k ds) ≡ any_of p ds
@@ -441,7 +442,7 @@ tells_eligible n f i h =
     rw (or_comm (is_local_face n.faces h))
     (tells_as
     (tells_and (tells_and (tells_open n h) (tells_if (tells_eq h f) (tells_ad_hoc n f)))
-    (tells_if (tells_or (tells_or (tells_spent i.hop) Iff·rfl) (tells_and Iff·rfl (tells_not (tells_local n f)))) (tells_local n h))) (
+    (tells_if (tells_or (tells_or (tells_spent i.hop) Iff.rfl) (tells_and Iff.rfl (tells_not (tells_local n f)))) (tells_local n h))) (
       λ k. record {
         there = k.0.0;
         other = k.0.1;
@@ -552,7 +553,7 @@ module _ (now : ℕ) (n : Node) where
 pub tells_matches : (d : Offer) (x : Entry) → Tells (matches d.name x) (Matches d x)
 unfolding matches
 tells_matches d x =
-    tells_or (tells_bytes x.name d.name) (tells_and Iff·rfl (tells_prefix x.name d.name))
+    tells_or (tells_bytes x.name d.name) (tells_and Iff.rfl (tells_prefix x.name d.name))
 
 -- 12: whether a Data matches no entry
 unfoldable pub is_unasked : Node → Offer → Bool

@@ -67,15 +67,15 @@ Rows = Lent (List (List ℕ))
 
 -- the routes as they were lent
 abbrev pub before : Rows → Rows → Rows → Routes → List Route
-before names heads costs s = view names.entry.now heads.entry.now costs.entry.now s
+before names heads costs s = view names.entry heads.entry costs.entry s
 
 -- the routes as they are left
 abbrev pub after : Rows → Rows → Rows → Routes → List Route
-after names heads costs s = view names.exit.now heads.exit.now costs.exit.now s
+after names heads costs s = view names.exit heads.exit costs.exit s
 
 -- the place that a handle stands for among the routes that were lent
 abbrev pub placed : Rows → Rows → Rows → Routes → Handle → ℕ
-placed names heads costs s h = place names.entry.now heads.entry.now costs.entry.now s h
+placed names heads costs s h = place names.entry heads.entry costs.entry s h
 
 -- the route that a handle stands for among the routes that were lent, if there is one
 abbrev pub found : Rows → Rows → Rows → Routes → Handle → Option Route

@@ -58,15 +58,15 @@ Rows = Lent (List (List ℕ))
 
 -- the Data as they were lent
 abbrev pub before : Rows → Rows → Store → List Stored
-before packets heads s = view packets.entry.now heads.entry.now s
+before packets heads s = view packets.entry heads.entry s
 
 -- the Data as they are left
 abbrev pub after : Rows → Rows → Store → List Stored
-after packets heads s = view packets.exit.now heads.exit.now s
+after packets heads s = view packets.exit heads.exit s
 
 -- the place that a handle stands for among the Data that were lent
 abbrev pub placed : Rows → Rows → Store → Handle → ℕ
-placed packets heads s h = place packets.entry.now heads.entry.now s h
+placed packets heads s h = place packets.entry heads.entry s h
 
 -- the Data that a handle stands for among the Data that were lent, if there is one
 abbrev pub found : Rows → Rows → Store → Handle → Option Stored
