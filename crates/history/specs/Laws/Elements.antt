@@ -28,6 +28,8 @@ module _ {A : Type 0} where
   -- an element is the one at a place, or one of the others
   pub at_or_other : (i : ℕ) (x z : A) (l : List A) → at_place i l ≡ some x → In z l → (x ≡ z) ⊎ In z (without i l)
   unfolding at_place without
+  at_or_other zero x z [] q k = elim k [ ]
+  at_or_other (suc i) x z [] q k = elim k [ ]
   at_or_other zero x z (a ∷ l) q (here e) = inl (sym (some-injective _ _ q) ∙ e)
   at_or_other zero x z (a ∷ l) q (there k) = inr k
   at_or_other (suc i) x z (a ∷ l) q (here e) = inr (here e)
@@ -36,6 +38,8 @@ module _ {A : Type 0} where
   -- the others stay where that at a place is replaced
   pub other_stays : (i : ℕ) (y z : A) (l : List A) → In z (without i l) → In z (on_at i (λ _. y) l)
   unfolding on_at without
+  other_stays zero y z [] k = elim k [ ]
+  other_stays (suc i) y z [] k = elim k [ ]
   other_stays zero y z (a ∷ l) k = there k
   other_stays (suc i) y z (a ∷ l) (here e) = here e
   other_stays (suc i) y z (a ∷ l) (there k) = there (other_stays i y z l k)

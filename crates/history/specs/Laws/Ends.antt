@@ -33,7 +33,7 @@ use Rattle.rules.specs.Step.{bad_face, after_ageing, step}
 use Rattle.refusals.specs.Refusals.{AdHoc, Known, OutRecord}
 use Rattle.refusals.specs.Laws.Tells.{tells_not, tells_some, tells_held}
 use Rattle.refusals.specs.Laws.Tests.{tells_peer, tells_ad_hoc, tells_known, tells_sent, tells_matches}
-use Rattle.history.specs.Lists.{All, nothing, both, Some, here, there, In, Apart, among}
+use Rattle.history.specs.Lists.{All, nothing, both, Some, here, there, In, Apart, alone, among}
 use Rattle.history.specs.Moments.{Moment, moment, lived, told}
 use Rattle.history.specs.Shape.{Shaped}
 use Rattle.history.specs.Ends.{Stood, OthersNacked, Reason, own, noted, Smallest, zero_only, nonzero, Honest}
@@ -90,6 +90,7 @@ unfolding smallest_reason is_empty
 smallest_is [] = zero_only (λ r q. absurd (false≢true (sym (filled [] q))))
   where
     filled : {P : Held Sent → Type 0} (l : List (Held Sent)) → Some P l → is_empty l ≡ false
+    filled [] q = elim q [ ]
     filled (h ∷ l) q = refl
 smallest_is (h ∷ hs) =
     smallest_as _ _ (λ r. ⊎_elim (λ q. here q) (λ q. there q)) (λ r. parts r) _
@@ -103,6 +104,7 @@ smallest_is (h ∷ hs) =
 
 -- an element of which one thing holds, where another holds of each
 all_some : {A : Type 0} {P Q : A → Type 0} {l : List A} → All P l → Some Q l → (a : A) × P a × Q a
+all_some nothing s = elim s [ ]
 all_some (both {a} p h) (here q) = (a, p, q)
 all_some (both p h) (there s) = all_some h s
 
@@ -190,6 +192,7 @@ stood_of es x i y t h e = stood_as es x x (record { name = refl; prefix = refl; 
 
 -- of elements apart, two that are not apart are one
 in_one : {A : Type 0} {D : A → A → Type 0} {l : List A} → Apart D l → {a b : A} → In a l → In b l → (D a b → ⊥) → (D b a → ⊥) → a ≡ b
+in_one alone i _ u v = elim i [ ]
 in_one (among d h) (here p) (here q) u v = sym p ∙ q
 in_one (among d h) (here p) (there j) u v = absurd (u (rw p at (all_in d j)))
 in_one (among d h) (there i) (here q) u v = absurd (v (rw q at (all_in d i)))

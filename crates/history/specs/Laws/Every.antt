@@ -61,6 +61,7 @@ module _ {A : Type 0} {P : A → Type 0} where
 
   -- an element that P holds of
   pub all_in : {l : List A} → All P l → {a : A} → In a l → P a
+  all_in nothing i = elim i [ ]
   all_in (both p h) (here e) = rw e at p
   all_in (both p h) (there i) = all_in h i
 

@@ -153,6 +153,7 @@ module _ {A : Type 0} where
   not_empty f l a e = go (held l) (slot_held f l a e)
     where
       go : {x : Held A} (m : List (Held A)) → In x m → is_empty m ≡ false
+      go [] i = elim i [ ]
       go (y ∷ m) i = refl
 
 module _ (A : Type 0) where

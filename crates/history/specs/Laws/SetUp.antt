@@ -1,4 +1,5 @@
--- What stands was set up (`set_up_lem`): the open faces, the classes of the routes and their hops are what the accepted commands made of them.
+-- What stands was set up (`set_up_lem`): the open faces, the classes of the routes and their hops are what the accepted commands made of
+-- them.
 -- Assumes nothing.
 use Prim.Native.Nat.{ℕ, zero, suc, ◌≤◌, ◌<◌}
 use Rattle.std.proofs.Math.Path.{◌≡◌, refl, sym}
