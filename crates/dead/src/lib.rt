@@ -30,8 +30,8 @@ pub struct Ring {
 
 // A ring without lines, whatever the memory holds.
 pub fn empty() -> Ring
-    ensures by_index { (lines : List (List ℕ)) → view lines result ≡ [] }
-    ensures result_value { line_count result ≡ 0 }
+    ensures no_lines { (lines : List (List ℕ)) → view lines result ≡ [] }
+    ensures none_counted { line_count result ≡ 0 }
 {
     Ring { at: 0, count: 0 }
 }
@@ -43,8 +43,8 @@ fn has_all_rows(lines: Lines)
 
 // A line joins: "the 257th overwrites the oldest".
 pub fn join(lines: &mut Lines, ring: Ring, print: u64, time: u64) -> Ring
-    ensures result_value { after (lent lines) result ≡ joined most_dead (before (lent lines) ring) (line print time) }
-    ensures result_value_2 { line_count result ≡ length (after (lent lines) result) }
+    ensures joins { after (lent lines) result ≡ joined most_dead (before (lent lines) ring) (line print time) }
+    ensures counted { line_count result ≡ length (after (lent lines) result) }
 {
     has_all_rows(*lines);
     let at = ring.at % DEAD;

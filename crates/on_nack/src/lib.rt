@@ -112,8 +112,8 @@ fn send_nacks(
     fresh: bool,
     class: u64,
 ) -> usize
-    requires name_len_bound { length name.now ≤ most_name }
-    requires least_buffer_in_bounds { least_buffer ≤ length out.old }
+    requires name_fits { length name.now ≤ most_name }
+    requires buffer_fits { least_buffer ≤ length out.old }
     ensures { PacksIn (lent sends) (lent out) result
         (nacks_on (entry_at (shown names) (shown heads) (shown recs) (shown numbers) s h) set reason name.now prefix fresh class) }
 {
@@ -149,8 +149,8 @@ fn end_by_nack(
     prefix: bool,
     fresh: bool,
 ) -> Came
-    requires name_len_bound { length name.now ≤ most_name }
-    requires least_buffer_in_bounds { least_buffer ≤ length out.old }
+    requires name_fits { length name.now ≤ most_name }
+    requires buffer_fits { least_buffer ≤ length out.old }
     ensures { (e : Entry) → entry_at (shown names) (lent heads) (shown recs) (shown numbers) small.pending h ≡ some e
         → is_known name.now prefix fresh e ≡ true → reason ≡ smallest_reason (held e.sent)
         → TurnsIn (λ n. ends_by_nack small.time n (place_of (shown numbers) small.pending h) e) made small result
@@ -227,8 +227,8 @@ fn mark(
     prefix: bool,
     fresh: bool,
 ) -> Came
-    requires name_len_bound { length name.now ≤ most_name }
-    requires least_buffer_in_bounds { least_buffer ≤ length out.old }
+    requires name_fits { length name.now ≤ most_name }
+    requires buffer_fits { least_buffer ≤ length out.old }
     ensures { (e : Entry) → entry_at (shown names) (lent heads) (lent recs) (shown numbers) small.pending h ≡ some e
         → is_known name.now prefix fresh e ≡ true
         → TurnsIn (λ n. nacked_entry small.time n (place_of (shown numbers) small.pending h) (with_nack face reason e)) made small result
@@ -278,8 +278,8 @@ fn take(
     fresh: bool,
     nonce: u64,
 ) -> Came
-    requires name_len_bound { length name.now ≤ most_name }
-    requires least_buffer_in_bounds { least_buffer ≤ length out.old }
+    requires name_fits { length name.now ≤ most_name }
+    requires buffer_fits { least_buffer ≤ length out.old }
     ensures { (a : Ask) → a.name ≡ name.now → a.can_be_prefix ≡ prefix → a.must_be_fresh ≡ fresh → a.nonce ≡ nonce
         → TurnsIn (λ n. nack_step small.time n face reason a) made small result (shown names) (lent heads) (lent recs) (shown numbers)
         (lent lines) (lent sends) (lent out) (lent rows) }

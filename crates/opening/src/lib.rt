@@ -48,8 +48,8 @@ pub fn refused(
     name: &[u8],
     i: Interest,
 ) -> Came
-    ensures value { result ≡ came answer small result.sent made }
-    ensures packs_in { PacksIn (lent sends) (lent out) result.sent
+    ensures answers { result ≡ came answer small result.sent made }
+    ensures packs { PacksIn (lent sends) (lent out) result.sent
         (if_room (nack_bytes reason name.now i.can_be_prefix i.must_be_fresh i.nonce) out.old
         (nack_sends (view small.faces) (routes.before (shown prefixes) (shown settings) (shown costs) small.routes) face reason name.now
         i.can_be_prefix i.must_be_fresh i.nonce)) }
@@ -94,8 +94,8 @@ fn open(
     expiry: u64,
 ) -> Came
     requires sized { Sized small.time (length out.old) (length bare.now) (length name.now) }
-    requires expiry_value { expiry ≡ small.time + min i.lifetime most_lifetime }
-    requires pending_len_bound { length (pending.view names.old heads.old recs.old numbers.old small.pending) < most_entries }
+    requires expires { expiry ≡ small.time + min i.lifetime most_lifetime }
+    requires has_room { length (pending.view names.old heads.old recs.old numbers.old small.pending) < most_entries }
     ensures { (packets uses lines : Table)
         → After (λ n. opens_entry n.time n (arrival_named face name.now bare.now i) (class_of class) to) made result
         (beside_store small result.small (shown prefixes) (shown settings) (shown costs) (lent names) (lent heads) (lent recs)

@@ -162,9 +162,9 @@ pub fn age(
     h: Handle,
     time: u64,
 ) -> u64
-    ensures s_value { after (shown names) (lent heads) (shown recs) (shown numbers) s ≡ on_at (place_of (shown numbers) s h)
+    ensures aged { after (shown names) (lent heads) (shown recs) (shown numbers) s ≡ on_at (place_of (shown numbers) s h)
         (aged_entry time) (before (shown names) (lent heads) (shown recs) (shown numbers) s) }
-    ensures value { result ≡ given 0 (overdue_faces most_faces time) (entry_at (shown names) (lent heads) (shown recs)
+    ensures overdue { result ≡ given 0 (overdue_faces most_faces time) (entry_at (shown names) (lent heads) (shown recs)
         (shown numbers) s h) }
 {
     let row = row_of(s, h);

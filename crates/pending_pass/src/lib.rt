@@ -412,11 +412,11 @@ fn lower_of(had: bool, word: u64, class: u64) -> u64
 
 // A class joins for a face. `had` is the set of the faces that have a class.
 fn lower_word(classes: &mut Classes, had: u64, face: usize, class: u64) -> u64
-    requires le_face { 1 ≤ face }
-    requires face_le_most_faces { face ≤ most_faces }
-    ensures classes_after { classes.new ≡ set classes.old (face - 1)
+    requires is_face { 1 ≤ face }
+    requires face_within { face ≤ most_faces }
+    ensures lowered { classes.new ≡ set classes.old (face - 1)
         (lower_word (has_face most_faces had face) (get_or classes.old (face - 1) 0) class) }
-    ensures value { result ≡ with_face most_faces had face }
+    ensures told { result ≡ with_face most_faces had face }
 {
     has_all_words(*classes);
     let i = face - 1;

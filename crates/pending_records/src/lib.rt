@@ -49,8 +49,8 @@ pub enum Nacks {
 
 // The set with a face more, if the face's request is over: "A request lives while time < arrival + lifetime".
 fn with_over(over: u64, recs: &Records, f: usize, time: u64) -> u64
-    requires le_f { 1 ≤ f }
-    requires f_le_most_faces { f ≤ most_faces }
+    requires is_face { 1 ≤ f }
+    requires face_within { f ≤ most_faces }
     ensures { result ≡ pick (is_over time recs.now f) (with_face most_faces over f) over }
 {
     if time < recs[f - 1][EXPIRY] {
@@ -83,8 +83,8 @@ pub fn overdue(head: &Head, recs: &Records, time: u64) -> u64
 
 // Ends the requests that are over; the set of their faces.
 pub fn age(head: &mut Head, recs: &Records, time: u64) -> u64
-    ensures by_index { (nm : List ℕ) → after nm (lent head) (shown recs) ≡ aged_entry time (before nm (lent head) (shown recs)) }
-    ensures by_index_2 { (nm : List ℕ) → result ≡ overdue_faces most_faces time (before nm (lent head) (shown recs)) }
+    ensures aged { (nm : List ℕ) → after nm (lent head) (shown recs) ≡ aged_entry time (before nm (lent head) (shown recs)) }
+    ensures overdue { (nm : List ℕ) → result ≡ overdue_faces most_faces time (before nm (lent head) (shown recs)) }
 {
     let h = *head;
     let over = over_in(h[ASKING], recs, time);
@@ -173,11 +173,11 @@ pub fn is_suppressed(head: &Head, recs: &Records, time: u64) -> bool
 
 // The face with the earlier out-record: the best so far, 0 where there is none, or another face.
 fn earlier(recs: &Records, best: usize, f: usize) -> usize
-    requires best_le_most_faces { best ≤ most_faces }
-    requires le_f { 1 ≤ f }
-    requires f_le_most_faces { f ≤ most_faces }
-    ensures value { result ≡ earlier_face recs.now best f }
-    ensures upper_bound { result ≤ most_faces }
+    requires best_within { best ≤ most_faces }
+    requires is_face { 1 ≤ f }
+    requires face_within { f ≤ most_faces }
+    ensures earlier { result ≡ earlier_face recs.now best f }
+    ensures within { result ≤ most_faces }
 {
     if best == 0 {
         return f;

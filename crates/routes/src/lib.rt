@@ -56,8 +56,8 @@ pub struct Settled {
 
 // No routes, whatever the memory holds.
 pub fn empty() -> Routes
-    ensures result_value { (names heads costs : List (List ℕ)) → view names heads costs result ≡ [] }
-    ensures value { result ≡ state_of [] }
+    ensures no_routes { (names heads costs : List (List ℕ)) → view names heads costs result ≡ [] }
+    ensures state { result ≡ state_of [] }
 {
     Routes { count: 0 }
 }
@@ -170,9 +170,9 @@ pub fn remove(
     routes: Routes,
     route: Handle,
 ) -> Routes
-    ensures result_value { after (lent names) (lent heads) (lent costs) result ≡ without (placed (lent names) (lent heads)
+    ensures gone { after (lent names) (lent heads) (lent costs) result ≡ without (placed (lent names) (lent heads)
         (lent costs) routes route) (before (lent names) (lent heads) (lent costs) routes) }
-    ensures value { result ≡ state_of (after (lent names) (lent heads) (lent costs) result) }
+    ensures state { result ≡ state_of (after (lent names) (lent heads) (lent costs) result) }
 {
     let n = clamped(routes.count, ROUTES);
     let i = route.at;

@@ -52,8 +52,8 @@ pub struct Kept {
 
 // No Data, whatever the memory holds.
 pub fn empty() -> Store
-    ensures by_index { (packets heads : List (List ℕ)) → view packets heads result ≡ [] }
-    ensures value { result ≡ state_of [] }
+    ensures no_data { (packets heads : List (List ℕ)) → view packets heads result ≡ [] }
+    ensures state { result ≡ state_of [] }
 {
     Store { count: 0 }
 }
@@ -75,8 +75,8 @@ fn has_all_bytes(row: [u8; PACKET])
 
 // The first bytes of a row, no more than a packet has.
 fn bytes_in(row: &[u8; PACKET], len: u64) -> &[u8]
-    ensures result_value { result.now ≡ take len row.now }
-    ensures result_len_bound { length result.now ≤ most_packet }
+    ensures bytes { result.now ≡ take len row.now }
+    ensures fits { length result.now ≤ most_packet }
 {
     has_all_bytes(*row);
     part(row, len)
@@ -84,8 +84,8 @@ fn bytes_in(row: &[u8; PACKET], len: u64) -> &[u8]
 
 // The bytes of a Data, where they stand; none where there is no Data.
 pub fn bytes_of<'a>(packets: &'a Packets, heads: &Heads, store: Store, taken: Handle) -> &'a [u8]
-    ensures result_value { result.now ≡ given [] (λ d. d.bytes) (found (shown packets) (shown heads) store taken) }
-    ensures result_len_bound { length result.now ≤ most_packet }
+    ensures bytes { result.now ≡ given [] (λ d. d.bytes) (found (shown packets) (shown heads) store taken) }
+    ensures fits { length result.now ≤ most_packet }
 {
     let i = taken.at;
     if i < clamped(store.count, STORED) {
@@ -121,8 +121,8 @@ fn find(packets: &Packets, heads: &Heads, store: Store, name: &[u8]) -> usize
 // The place of the Data that gives way to a new one of a name: the equal name's, else, in a full store, that of the least recent; else the
 // number of Data.
 fn leaving(packets: &Packets, heads: &Heads, store: Store, name: &[u8]) -> usize
-    ensures value { result ≡ leaver name.now (before (shown packets) (shown heads) store) }
-    ensures upper_bound { result < most_stored }
+    ensures leaves { result ≡ leaver name.now (before (shown packets) (shown heads) store) }
+    ensures within { result < most_stored }
 {
     let i = find(packets, heads, store, name);
     if i < STORED { i } else { 0 }
@@ -141,9 +141,9 @@ fn has_all_heads(heads: Heads)
 // The Data at a place goes, and those after it move one place down; a place past the last changes nothing. How many there are then.
 fn take_out(packets: &mut Packets, heads: &mut Heads, store: Store, i: usize) -> usize
     requires { i < most_stored }
-    ensures result_value { after (lent packets) (lent heads) (record { count = result }) ≡ without i (before (lent packets)
+    ensures gone { after (lent packets) (lent heads) (record { count = result }) ≡ without i (before (lent packets)
         (lent heads) store) }
-    ensures upper_bound { result < most_stored }
+    ensures within { result < most_stored }
 {
     let n = clamped(store.count, STORED);
     if n <= i {
@@ -263,9 +263,9 @@ fn is_before(order: Order) -> bool
 // Of a Data and the best of those after it, the place of the first in canonical order. The number of Data stands for no best.
 fn earlier_of(packets: &Packets, heads: &Heads, n: usize, i: usize, best: usize) -> usize
     requires { (i < n) × (n ≤ most_stored) }
-    ensures result_value { hit_at packets.now heads.now n result
+    ensures earlier { hit_at packets.now heads.now n result
         ≡ earlier (hit packets.now heads.now i) (hit_at packets.now heads.now n best) }
-    ensures upper_bound { result ≤ n }
+    ensures within { result ≤ n }
 {
     if n <= best {
         return i;
@@ -305,9 +305,9 @@ pub fn look(
 
 // A hit becomes the most recent; a handle that stands for no Data changes nothing. The store then.
 pub fn touch(packets: &mut Packets, heads: &mut Heads, store: Store, taken: Handle) -> Store
-    ensures result_value { after (lent packets) (lent heads) result ≡ recent (placed (lent packets) (lent heads) store taken) (before
+    ensures touched { after (lent packets) (lent heads) result ≡ recent (placed (lent packets) (lent heads) store taken) (before
         (lent packets) (lent heads) store) }
-    ensures value { result ≡ state_of (after (lent packets) (lent heads) result) }
+    ensures state { result ≡ state_of (after (lent packets) (lent heads) result) }
 {
     let n = clamped(store.count, STORED);
     let i = taken.at;

@@ -18,7 +18,7 @@ const TENTH: u64 = 9223372036854775808;
 // The number that ends with the group b: v is the number of the groups before it, unit its place value, next the place past it.
 fn last_group(v: u64, unit: u64, b: u64, next: usize) -> TapeNumber
     requires passed { Passed v unit }
-    requires b_bound { b < 128 }
+    requires is_last { b < 128 }
     ensures { result ≡ closed v unit b next }
 {
     if unit == 1 {

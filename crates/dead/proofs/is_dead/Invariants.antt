@@ -1,0 +1,15 @@
+-- The loop's invariant: a fingerprint is live among all lines where it is live from line k on. One law for a turn, and one for the end.
+use borrow.Author.Rules.{rules}
+use native.Mathlib.Omega.{arith}
+use mathlib.Core.Path.{◌≡◌, refl, sym, ◌∙◌}
+use Prim.Native.Nat.{◌-◌}
+use lib.ListN.{drop}
+use Rattle.records.specs.Line.{is_dead}
+use Rattle.dead.specs.Places.View.{line_at, view, view_dead, view_dead_end}
+use Rattle.dead.proofs.is_dead.Given as goal
+
+abbrev pub invariant-loop-k : goal.invariant-loop-k
+invariant-loop-k l = is_dead l.time l.print (view l.lines l.ring) ≡ is_dead l.time l.print (drop l.k (view l.lines l.ring))
+
+abbrev pub decreases-loop-k : goal.decreases-loop-k
+decreases-loop-k l = l.n - l.k

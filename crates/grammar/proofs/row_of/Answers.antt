@@ -1,0 +1,33 @@
+-- The look-up from row i on finds what the whole look-up finds: that is the invariant, and each arm of a turn is one law.
+use borrow.Author.Rules.{rules}
+use native.Mathlib.Omega.{arith}
+use mathlib.Core.Path.{sym, ◌∙◌}
+use Prim.Native.Nat.{◌-◌}
+use Rattle.grammar.specs.Table.{table}
+use Rattle.grammar.specs.Laws.Table.{Sought, sought_start, sought_here, other_type, other_parent, sought_end}
+use mathlib.Core.Logic.{⊎_elim}
+use Rattle.grammar.proofs.row_of.Goals as goal
+
+pub loop-i-init : goal.loop-i-init
+loop-i-init c = rw c.first_row-i.ensures (sought_start _ _)
+
+pub returns-then-r-parent : goal.returns-then-r-parent
+unfolding table
+returns-then-r-parent c =
+    let h = c.loop-i.invariant in
+    let l = c.loop-i-test.true in
+    sought_here h l (sym c.number16.ensures ∙ c.if-number16-typ.true) c.if-r-parent.true
+
+pub loop-i-smaller : goal.loop-i-smaller
+loop-i-smaller c = omega (arith, c.loop-i.invariant.inside)
+
+pub loop-i-preserved : goal.loop-i-preserved
+unfolding table
+loop-i-preserved c =
+    let h = c.loop-i.invariant in
+    let l = c.loop-i-test.true in
+    ⊎_elim (λ w. other_parent h l w.2.left)
+    (λ w. other_type h l (λ e. w.left (c.number16.ensures ∙ e))) c.if-number16-typ.branch
+
+pub returns : goal.returns
+returns c = sought_end c.loop-i.invariant c.loop-i-test.false

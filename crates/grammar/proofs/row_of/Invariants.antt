@@ -1,0 +1,15 @@
+-- The look-up from row i on finds what the whole look-up finds: that is the invariant, and each arm of a turn is one law.
+use borrow.Author.Rules.{rules}
+use native.Mathlib.Omega.{arith}
+use mathlib.Core.Path.{sym, ◌∙◌}
+use Prim.Native.Nat.{◌-◌}
+use Rattle.grammar.specs.Table.{table}
+use Rattle.grammar.specs.Laws.Table.{Sought, sought_start, sought_here, other_type, other_parent, sought_end}
+use mathlib.Core.Logic.{⊎_elim}
+use Rattle.grammar.proofs.row_of.Given as goal
+
+abbrev pub invariant-loop-i : goal.invariant-loop-i
+invariant-loop-i l = Sought l.parent l.typ l.i
+
+abbrev pub decreases-loop-i : goal.decreases-loop-i
+decreases-loop-i l = 26 - l.i

@@ -1,0 +1,13 @@
+-- A row below the last is stored; past the last a store would change nothing.
+use borrow.Author.Rules.{rules}
+use native.Mathlib.Omega.{arith}
+use mathlib.Core.Path.{refl, sym}
+use lib.Seq.{set_out}
+use Rattle.happenings.proofs.note.Goals as goal
+
+pub returns-then-at-lt-ROWS : goal.returns-then-at-lt-ROWS
+returns-then-at-lt-ROWS c = record { rows = refl; made = λ l. refl; full = λ l. absurd (omega arith) }
+
+pub returns : goal.returns
+returns c =
+    record { rows = sym (set_out _ _ _ (omega arith)); made = λ l. absurd (omega arith); full = λ l. omega arith }

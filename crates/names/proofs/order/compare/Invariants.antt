@@ -1,0 +1,12 @@
+-- The components that are left of both decide: one law for each pair of answers of the cursor.
+use Rattle.std.proofs.Common.{◌≡◌, ◌-◌, length, sym, refl, ◌∙◌, arith, rules}
+use Rattle.names.specs.Order.{canonical, canonical_order, and_then}
+use Rattle.names.specs.Laws.Order.{components_from, both_end, first_ends, second_ends, both_go_on}
+use Rattle.wire.specs.Laws.Within.{read_is}
+use Rattle.names.proofs.order.compare.Given as goal
+
+abbrev pub invariant-loop-x : goal.invariant-loop-x
+invariant-loop-x l = canonical (components_from l.a l.i) (components_from l.b l.j) ≡ canonical_order l.a l.b
+
+abbrev pub decreases-loop-x : goal.decreases-loop-x
+decreases-loop-x l = length l.a - l.i

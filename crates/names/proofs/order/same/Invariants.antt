@@ -1,0 +1,11 @@
+-- What is left of both from a place on decides: one law for a turn, and one for each way out.
+use Rattle.std.proofs.Common.{◌≡◌, ◌-◌, ◌≤◌, length, drop, sym, ◌∙◌, arith, rules}
+use Rattle.names.specs.Name.{same_bytes}
+use Rattle.names.specs.Laws.Same.{same_lengths, same_step, same_differ, same_end}
+use Rattle.names.proofs.order.same.Given as goal
+
+abbrev pub invariant-loop-i : goal.invariant-loop-i
+invariant-loop-i l = (l.i ≤ length l.a) × (same_bytes (drop l.i l.a) (drop l.i l.b) ≡ same_bytes l.a l.b)
+
+abbrev pub decreases-loop-i : goal.decreases-loop-i
+decreases-loop-i l = length l.a - l.i

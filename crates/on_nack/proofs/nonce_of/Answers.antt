@@ -1,0 +1,10 @@
+-- By case: there is no request, or it is told.
+use borrow.Author.Rules.{rules}
+use Rattle.on_nack.specs.Laws.Nacks.{nonce_is, nonce_none}
+use Rattle.on_nack.proofs.nonce_of.Goals as goal
+
+pub returns-in-None : goal.returns-in-None
+returns-in-None c = nonce_none _ _ _ c.request_of.ensures c.in-None.is
+
+pub returns-in-Is : goal.returns-in-Is
+returns-in-Is c = nonce_is _ _ _ c.request_of.ensures _ _ c.in-Is.is

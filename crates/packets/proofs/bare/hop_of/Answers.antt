@@ -1,0 +1,16 @@
+-- By the test.
+use borrow.Author.Rules.{rules}
+use borrow.Author.Tests.{lt-ltb, le-ltb, le-leb, lt-leb, eq-eqb, ne_eqb}
+use Rattle.packets.specs.Places.Bare.{hop_at}
+use Rattle.laws.specs.Pick.{pick}
+use Rattle.packets.proofs.bare.hop_of.Goals as goal
+
+ruleset tests = (lt-ltb, le-ltb, le-leb, lt-leb, eq-eqb, ne_eqb)
+
+pub returns-then-p-eq0 : goal.returns-then-p-eq0
+unfolding hop_at pick
+returns-then-p-eq0 c = search (rules, tests)
+
+pub returns : goal.returns
+unfolding hop_at pick
+returns c = rw (← c.part_at.ensures, ← c.whole_of.ensures) (search (rules, tests))

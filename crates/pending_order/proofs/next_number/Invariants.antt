@@ -1,0 +1,19 @@
+-- The loop's invariant: the number above all is above the largest so far and those that are left.
+use borrow.Author.Rules.{rules}
+use native.Mathlib.Omega.{arith}
+use mathlib.Core.Path.{◌≡◌, refl}
+use Prim.Native.Nat.{◌+◌, ◌^◌, ◌<◌}
+use borrow.Author.Tests.{lt-ltb, le-ltb}
+use lib.Count.{trailing_le}
+use Rattle.laws.specs.Laws.Digits.{lowest}
+use Rattle.laws.specs.Pick.{pick}
+use Rattle.sizes.specs.Sizes.{most_entries}
+use Rattle.pending_order.specs.Laws.Walk.{Largest, largest_turn, largest_end, above_none, above_some, digit_less}
+use Rattle.pending_order.specs.Places.Rows.{next_in, above_of}
+use Rattle.pending_order.proofs.next_number.Given as goal
+
+abbrev pub invariant-loop-row : goal.invariant-loop-row
+invariant-loop-row l = Largest most_entries l.numbers l.used l.left l.most l.row × (0 < above_of most_entries l.numbers l.used)
+
+abbrev pub decreases-loop-row : goal.decreases-loop-row
+decreases-loop-row l = l.left

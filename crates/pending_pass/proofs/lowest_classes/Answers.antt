@@ -1,0 +1,36 @@
+-- The loop's invariant is `LowestTo`, with the handle at the first mark: one law for the start, one for a turn, one for the end.
+use borrow.Author.Rules.{rules}
+use borrow.Author.Tests.{ltb-true, ltb-false}
+use mathlib.Core.Path.{◌≡◌, refl, sym, ◌∙◌}
+use Rattle.sizes.specs.Sizes.{most_faces}
+use Rattle.pending_table.specs.Places.View.{view, place, marks, marks_length}
+use Rattle.pending_pass.specs.Places.Lowering.{LowestTo}
+use Rattle.pending_pass.specs.Laws.Pass.{first_mark, mark_count}
+use Rattle.pending_pass.specs.Laws.Faces.{has_none}
+use Rattle.pending_pass.specs.Laws.Lowest.{lowest_start, lowest_next, lowest_less, lowest_end, zeros_at}
+use Rattle.pending_pass.proofs.lowest_classes.Goals as goal
+
+pub loop-s-init : goal.loop-s-init
+loop-s-init c = (
+  c.next-h.ensures.at,
+  lowest_start _ _ _ _ _ (marks_length most_faces _ _ _ _ _ _) refl (λ f. zeros_at most_faces f)
+      (λ f. has_none most_faces f),
+)
+
+pub loop-s-smaller : goal.loop-s-smaller
+loop-s-smaller c =
+    let l = c.loop-s in
+    lowest_less _ _ _ _ _ _ l.invariant.1 _ l.invariant.0 (ltb-true _ _ (sym c.is_there.ensures ∙ c.loop-s-test.true)) _ c.rest-left.ensures
+
+pub loop-s-preserved : goal.loop-s-preserved
+loop-s-preserved c =
+    let l = c.loop-s in (
+      c.next-h-in-loop-s.ensures.at,
+      lowest_next _ _ _ _ _ _ l.invariant.1 _ l.invariant.0 (ltb-true _ _ (sym c.is_there.ensures ∙ c.loop-s-test.true)) _
+          c.asking_faces-asked.ensures _ c.facts_of-facts.ensures _ _ c.lower_words-had.ensures _ c.rest-left.ensures,
+    )
+
+pub returns : goal.returns
+returns c =
+    let l = c.loop-s in
+    lowest_end _ _ _ _ _ _ l.invariant.1 _ l.invariant.0 (ltb-false _ _ (sym c.is_there.ensures ∙ c.loop-s-test.false))

@@ -1,0 +1,21 @@
+-- The loop's invariant: a prefix is found among all routes where it is found from place i on.
+-- whether the route at a place has a prefix
+use borrow.Author.Rules.{rules}
+use native.Mathlib.Omega.{arith}
+use mathlib.Core.Path.{◌≡◌, sym, ◌∙◌}
+use Prim.Native.Nat.{ℕ, ◌-◌}
+use mathlib.Core.Bool.{Bool}
+use mathlib.Core.List.{List}
+use Rattle.sizes.specs.Sizes.{most_faces}
+use Rattle.laws.specs.Places.Loop.{first}
+use Rattle.laws.specs.Laws.Loop.{first_hit, first_miss, first_end, from_zero}
+use Rattle.names.specs.Name.{same_bytes}
+use Rattle.records.specs.Route.{route_of}
+use Rattle.routes.specs.Places.View.{route_at, route_row, place_is, view_find}
+use Rattle.routes.proofs.find.Given as goal
+
+abbrev pub invariant-loop-i : goal.invariant-loop-i
+invariant-loop-i l = first (Has l.prefix l.names l.heads l.costs) 0 l.n ≡ first (Has l.prefix l.names l.heads l.costs) l.i (l.n - l.i)
+
+abbrev pub decreases-loop-i : goal.decreases-loop-i
+decreases-loop-i l = l.n - l.i

@@ -1,0 +1,16 @@
+-- By whether the face is point-to-point.
+use borrow.Author.Rules.{rules}
+use mathlib.Core.Path.{sym, ◌∙◌}
+use Rattle.sending.specs.Laws.Refusal.{class_said, refuses_none, refuses_one}
+use Rattle.sending.proofs.refuse.Goals as goal
+
+pub returns-then-is_peer : goal.returns-then-is_peer
+returns-then-is_peer c =
+    refuses_one _ _ _ _ _ _ _ _ _ _ _ _ _ _
+    (sym c.is_peer.ensures
+    ∙ c.if-is_peer.true)
+    c.class_for-class.ensures
+    (class_said _ _ _ _ _) c.send_nack.ensures
+
+pub returns : goal.returns
+returns c = refuses_none _ _ _ _ _ _ _ _ _ _ (sym c.is_peer.ensures ∙ c.if-is_peer.false)

@@ -1,0 +1,14 @@
+-- Both tests of a lookup, the cheap one first.
+use borrow.Author.Rules.{rules}
+use mathlib.Core.Path.{sym, ◌∙◌}
+use Rattle.store.specs.Places.View.{stored_at}
+use Rattle.store.specs.Laws.Look.{serves_late, serves_named}
+use Rattle.store.proofs.is_served.Goals as goal
+
+pub returns-then-is_in_time : goal.returns-then-is_in_time
+unfolding stored_at
+returns-then-is_in_time c = c.is_named.ensures ∙ sym (serves_named _ _ _ _ _ _ (sym c.is_in_time.ensures ∙ c.if-is_in_time.true))
+
+pub returns-else-is_in_time : goal.returns-else-is_in_time
+unfolding stored_at
+returns-else-is_in_time c = sym (serves_late _ _ _ _ _ _ (sym c.is_in_time.ensures ∙ c.if-is_in_time.false))

@@ -1,0 +1,15 @@
+-- `flag_len` meets its contract: a flag that is set is an element without a value.
+use borrow.Author.Rules.{rules}
+use mathlib.Core.Path.{refl}
+use Rattle.writing.specs.Written.{flag}
+use Rattle.laws.specs.Pick.{pick}
+use mathlib.Core.List.{[]}
+use Rattle.writing.proofs.flag_len.Goals as goal
+
+pub returns-then-on : goal.returns-then-on
+unfolding flag pick
+returns-then-on c = rw c.if-on.true (c.element_len.ensures [] refl)
+
+pub returns : goal.returns
+unfolding flag pick
+returns c = rw c.if-on.false
