@@ -12,3 +12,7 @@ overflow_cast-result c = omega (arith, trailing_le 64 (c.args.set % 2 ^ most_fac
 
 pub overflow_add-result-2 : goal.overflow_add-result-2
 overflow_add-result-2 c = omega (arith, trailing_le 64 (c.args.set % 2 ^ most_faces + 2 ^ most_faces))
+
+pub returns : goal.returns
+unfolding lowest_face
+returns c = search rules

@@ -9,3 +9,7 @@ use Rattle.faces.proofs.size.Goals as goal
 
 pub overflow_cast-result-3 : goal.overflow_cast-result-3
 overflow_cast-result-3 c = omega (arith, ones-le most_faces (c.args.set % 2 ^ most_faces) (omega arith))
+
+pub returns : goal.returns
+unfolding size_of
+returns c = search rules

@@ -5,8 +5,8 @@ use mathlib.Core.Path.{sym, ◌∙◌}
 use Prim.Native.Nat.{◌-◌}
 use Rattle.grammar.specs.Table.{table}
 use Rattle.grammar.specs.Laws.Table.{Sought, sought_start, sought_here, other_type, other_parent, sought_end}
-use mathlib.Core.Logic.{⊎_elim}
 use Rattle.grammar.proofs.row_of.Goals as goal
+use Rattle.grammar.proofs.row_of.Goals.{then-number16-typ+else-r-parent, else-number16-typ}
 
 pub loop-i-init : goal.loop-i-init
 loop-i-init c = rw c.first_row-i.ensures (sought_start _ _)
@@ -26,8 +26,9 @@ unfolding table
 loop-i-preserved c =
     let h = c.loop-i.invariant in
     let l = c.loop-i-test.true in
-    ⊎_elim (λ w. other_parent h l w.2.left)
-    (λ w. other_type h l (λ e. w.left (c.number16.ensures ∙ e))) c.if-number16-typ.branch
+    elim c.if-number16-typ.branch
+    [ then-number16-typ+else-r-parent w ↦ other_parent h l w.if-r-parent.false
+    | else-number16-typ w ↦ other_type h l (λ e. w.if-number16-typ.false (c.number16.ensures ∙ e)) ]
 
 pub returns : goal.returns
 returns c = sought_end c.loop-i.invariant c.loop-i-test.false

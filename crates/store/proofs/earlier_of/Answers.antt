@@ -13,21 +13,21 @@ returns-then-n-best c =
 pub returns-then-is_before : goal.returns-then-is_before
 unfolding pick
 returns-then-is_before c =
-    let a = c.args in (
-      rw c.if-is_before.true at
+    let a = c.args in record {
+      earlier = rw c.if-is_before.true at
           (earlier_is a.packets.now a.heads.now a.n a.i a.best c.is_before.result c.compare.result _ _
           (omega arith) (omega arith)
-          c.is_before.ensures c.compare.ensures c.name_at.ensures c.name_at-2.ensures),
-      omega arith,
-    )
+          c.is_before.ensures c.compare.ensures c.name_at.ensures c.name_at-2.ensures);
+      within = omega arith;
+    }
 
 pub returns-else-is_before : goal.returns-else-is_before
 unfolding pick
 returns-else-is_before c =
-    let a = c.args in (
-      rw c.if-is_before.false at
+    let a = c.args in record {
+      earlier = rw c.if-is_before.false at
           (earlier_is a.packets.now a.heads.now a.n a.i a.best c.is_before.result c.compare.result _ _
           (omega arith) (omega arith)
-          c.is_before.ensures c.compare.ensures c.name_at.ensures c.name_at-2.ensures),
-      omega arith,
-    )
+          c.is_before.ensures c.compare.ensures c.name_at.ensures c.name_at-2.ensures);
+      within = omega arith;
+    }

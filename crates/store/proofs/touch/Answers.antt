@@ -16,12 +16,12 @@ pub returns-then-i-n : goal.returns-then-i-n
 returns-then-i-n c =
     let a = c.args in
     let n = c.clamped-n in
-    let t = c.take_out-last in (
-      rw place_is (touch_is a.packets.now a.heads.now a.store _ _ n.result a.taken.at t.result n.ensures
+    let t = c.take_out-last in record {
+      touched = rw place_is (touch_is a.packets.now a.heads.now a.store _ _ n.result a.taken.at t.result n.ensures
           (omega arith)
-          t.ensures.1 c.has_all_packets.ensures c.has_all_heads.ensures t.ensures.0),
-      view_state _ _ _ (omega arith),
-    )
+          t.ensures.within c.has_all_packets.ensures c.has_all_heads.ensures t.ensures.gone);
+      state = view_state _ _ _ (omega arith);
+    }
 
 pub returns : goal.returns
 returns c =

@@ -13,7 +13,7 @@ unfolding flag pick
 returns-then-on c = rw (c.if-on.true, ← head_alone c.args.typ) c.store_head.ensures
 
 pub shape_of-buf-then-on : goal.shape_of-buf-then-on
-shape_of-buf-then-on c = stored_length (returns c)
+shape_of-buf-then-on c = stored_length c.store_head.ensures
 
 pub returns : goal.returns
 unfolding flag pick

@@ -10,10 +10,12 @@ returns-in-Full c =
     absurd (omega (arith, c.requires.fits, full.0))
 
 pub shape_of-buf-in-Full : goal.shape_of-buf-in-Full
-shape_of-buf-in-Full c = stored_length (returns c)
+shape_of-buf-in-Full c =
+    let full = put_full _ _ _ _ c.put_head.ensures c.in-Full.is in
+    absurd (omega (arith, c.requires.fits, full.0))
 
 pub returns-in-Next : goal.returns-in-Next
 returns-in-Next c = (put_next _ _ _ _ c.put_head.ensures c.in-Next.is).1
 
 pub shape_of-buf-in-Next : goal.shape_of-buf-in-Next
-shape_of-buf-in-Next c = stored_length (returns-2 c)
+shape_of-buf-in-Next c = stored_length (put_next _ _ _ _ c.put_head.ensures c.in-Next.is).1

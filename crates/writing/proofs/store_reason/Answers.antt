@@ -19,4 +19,4 @@ unfolding reason_bytes pick
 returns c = rw (ne_eqb c.args.reason 0 c.if-reason-eq0.false) c.store_element.ensures
 
 pub shape_of-buf : goal.shape_of-buf
-shape_of-buf c = stored_length (returns-2 c)
+shape_of-buf c = stored_length c.store_element.ensures

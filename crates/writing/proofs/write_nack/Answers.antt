@@ -3,6 +3,8 @@ use borrow.Author.Rules.{rules}
 use native.Mathlib.Omega.{arith}
 use mathlib.Core.Path.{refl}
 use Rattle.writing.specs.Laws.Stored.{rest_fits, rest_short, stored_length, next_put, full_put}
+use Rattle.writing.specs.Places.Stored.{Room}
+use Rattle.writing.specs.Written.{nack_bytes}
 use Rattle.writing.specs.Laws.Written.{nack_most}
 use Rattle.writing.specs.Laws.Size.{nack_is}
 use Rattle.writing.proofs.write_nack.Goals as goal
@@ -30,4 +32,8 @@ pub shape_of-buf : goal.shape_of-buf
 shape_of-buf c = stored_length c.store_nack.ensures
 
 pub returns : goal.returns
-returns c = next_put _ _ _ _ (store-nack-requires c {-After-store_nack-arg-} c.store_nack.lifetimes) c.store_nack.ensures
+returns c =
+    let args = c.args in
+    let room : Room args.buf.now args.at (nack_bytes args.reason args.name.now args.prefix args.fresh args.nonce) =
+        rw nack_is (rest_fits _ _ _ (c.element_len-len.ensures _ (c.nack_len.ensures args.nonce)) c.if-buf-at.false c.if-buf-at-2.false) in
+    next_put _ _ _ _ room c.store_nack.ensures

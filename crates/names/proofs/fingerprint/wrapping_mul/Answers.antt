@@ -13,4 +13,4 @@ pub overflow_mul-m2 : goal.overflow_mul-m2
 overflow_mul-m2 c = record { fits = product_below 32 (search rules) (search rules) }
 
 pub returns : goal.returns
-returns c = c.wrapping_add_u64.ensures ∙ product c.args.a c.args.b
+returns c = c.wrapping_add_u64.ensures.value ∙ product c.args.a c.args.b

@@ -25,7 +25,9 @@ returns-then-n-lt65536 c =
     long_stored _ _ _ form c.put_two.ensures
 
 pub shape_of-buf-then-n-lt65536 : goal.shape_of-buf-then-n-lt65536
-shape_of-buf-then-n-lt65536 c = ap length (returns-2 c) ∙ simp length-sets
+shape_of-buf-then-n-lt65536 c = 
+    let form = form_three _ c.if-n-lt253.false c.if-n-lt65536.true in
+    ap length (long_stored _ _ _ form c.put_two.ensures) ∙ simp length-sets
 
 pub bounds-buf-at-then-n-lt4294967296 : goal.bounds-buf-at-then-n-lt4294967296
 bounds-buf-at-then-n-lt4294967296 c = omega (arith, (form_five _ c.if-n-lt65536.false c.if-n-lt4294967296.true).width)
@@ -39,7 +41,9 @@ returns-then-n-lt4294967296 c =
     long_stored _ _ _ form c.put_four.ensures
 
 pub shape_of-buf-then-n-lt4294967296 : goal.shape_of-buf-then-n-lt4294967296
-shape_of-buf-then-n-lt4294967296 c = ap length (returns-3 c) ∙ simp length-sets
+shape_of-buf-then-n-lt4294967296 c = 
+    let form = form_five _ c.if-n-lt65536.false c.if-n-lt4294967296.true in
+    ap length (long_stored _ _ _ form c.put_four.ensures) ∙ simp length-sets
 
 pub bounds-buf-at-2 : goal.bounds-buf-at-2
 bounds-buf-at-2 c = omega (arith, (form_nine _ c.if-n-lt4294967296.false).width)
@@ -53,4 +57,6 @@ returns c =
     long_stored _ _ _ form c.put_eight.ensures
 
 pub shape_of-buf : goal.shape_of-buf
-shape_of-buf c = ap length (returns-4 c) ∙ simp length-sets
+shape_of-buf c = 
+    let form = form_nine _ c.if-n-lt4294967296.false in
+    ap length (long_stored _ _ _ form c.put_eight.ensures) ∙ simp length-sets
