@@ -1,5 +1,4 @@
 -- The arm that an answer takes says which answer it is.
-use borrow.Author.Rules.{rules}
 use mathlib.Core.Path.{sym, ap}
 use Rattle.answers.specs.Number.{number_of}
 use Rattle.answers.proofs.number.Goals as goal

@@ -1,11 +1,9 @@
 -- The loop's invariant: a fingerprint is live among all lines where it is live from line k on. One law for a turn, and one for the end.
-use borrow.Author.Rules.{rules}
-use native.Mathlib.Omega.{arith}
-use mathlib.Core.Path.{◌≡◌, refl, sym, ◌∙◌}
+use mathlib.Core.Path.{◌≡◌}
 use Prim.Native.Nat.{◌-◌}
 use lib.ListN.{drop}
 use Rattle.records.specs.Line.{is_dead}
-use Rattle.dead.specs.Places.View.{line_at, view, view_dead, view_dead_end}
+use Rattle.dead.specs.Places.View.{view}
 use Rattle.dead.proofs.is_dead.Given as goal
 
 abbrev pub invariant-loop-k : goal.invariant-loop-k

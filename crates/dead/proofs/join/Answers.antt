@@ -1,5 +1,4 @@
 -- One law for a ring with room and one for a full ring. Both need that the table has its 256 rows.
-use borrow.Author.Rules.{rules}
 use native.Mathlib.Omega.{arith}
 use Rattle.dead.specs.Places.View.{count_all, view_join_room, view_join_full}
 use Rattle.dead.proofs.join.Goals as goal

@@ -1,5 +1,4 @@
 -- A number that is no face changes nothing; for a face the machine's `or` adds its digit.
-use borrow.Author.Rules.{rules}
 use native.Mathlib.Omega.{arith}
 use Prim.Native.Nat.{◌-◌}
 use Rattle.records.specs.Laws.Face.{face_yes, face_no}

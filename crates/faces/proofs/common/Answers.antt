@@ -1,5 +1,4 @@
 -- The faces of the machine's `and` are those that are in both sets.
-use borrow.Author.Rules.{rules}
 use mathlib.Core.Path.{◌∙◌}
 use Rattle.sizes.specs.Sizes.{most_faces}
 use Rattle.faces.specs.Laws.Set.{where_ext, has_and}

@@ -1,5 +1,4 @@
 -- A number that is no face is in no set; of a face the shift gives the digit.
-use borrow.Author.Rules.{rules}
 use native.Mathlib.Omega.{arith}
 use Prim.Native.Nat.{◌-◌}
 use Rattle.records.specs.Laws.Face.{face_yes, face_no}

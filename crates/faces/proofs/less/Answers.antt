@@ -1,5 +1,4 @@
 -- The faces of the machine's `xor` of a set and what it shares are those that the other has not.
-use borrow.Author.Rules.{rules}
 use mathlib.Core.Path.{◌∙◌}
 use Rattle.sizes.specs.Sizes.{most_faces}
 use Rattle.faces.specs.Laws.Set.{where_ext, has_less}

@@ -1,5 +1,4 @@
 -- The remainder has the digits of the faces and no others.
-use borrow.Author.Rules.{rules}
 use mathlib.Core.Path.{sym}
 use Rattle.sizes.specs.Sizes.{most_faces}
 use Rattle.faces.specs.Laws.Set.{where_mod}

@@ -1,5 +1,4 @@
 -- By the test: a face is added or removed.
-use borrow.Author.Rules.{rules}
 use Rattle.laws.specs.Pick.{pick}
 use Rattle.faces.proofs.put.Goals as goal
 

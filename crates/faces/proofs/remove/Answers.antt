@@ -1,5 +1,4 @@
 -- What is in the set loses its power of 2, which is at most the set; anything else changes nothing.
-use borrow.Author.Rules.{rules}
 use native.Mathlib.Omega.{arith}
 use mathlib.Core.Path.{sym, ◌∙◌}
 use Prim.Native.Nat.{◌-◌}

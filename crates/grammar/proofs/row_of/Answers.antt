@@ -1,10 +1,8 @@
 -- The look-up from row i on finds what the whole look-up finds: that is the invariant, and each arm of a turn is one law.
-use borrow.Author.Rules.{rules}
 use native.Mathlib.Omega.{arith}
 use mathlib.Core.Path.{sym, ◌∙◌}
-use Prim.Native.Nat.{◌-◌}
 use Rattle.grammar.specs.Table.{table}
-use Rattle.grammar.specs.Laws.Table.{Sought, sought_start, sought_here, other_type, other_parent, sought_end}
+use Rattle.grammar.specs.Laws.Table.{sought_start, sought_here, other_type, other_parent, sought_end}
 use Rattle.grammar.proofs.row_of.Goals as goal
 use Rattle.grammar.proofs.row_of.Goals.{then-number16-typ+else-r-parent, else-number16-typ}
 
@@ -26,9 +24,10 @@ unfolding table
 loop-i-preserved c =
     let h = c.loop-i.invariant in
     let l = c.loop-i-test.true in
-    elim c.if-number16-typ.branch
-    [ then-number16-typ+else-r-parent w ↦ other_parent h l w.if-r-parent.false
-    | else-number16-typ w ↦ other_type h l (λ e. w.if-number16-typ.false (c.number16.ensures ∙ e)) ]
+    elim c.if-number16-typ.branch [
+      | then-number16-typ+else-r-parent w ↦ other_parent h l w.if-r-parent.false
+      | else-number16-typ w ↦ other_type h l (λ e. w.if-number16-typ.false (c.number16.ensures ∙ e))
+    ]
 
 pub returns : goal.returns
 returns c = sought_end c.loop-i.invariant c.loop-i-test.false

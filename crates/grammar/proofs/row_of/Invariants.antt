@@ -1,11 +1,6 @@
 -- The look-up from row i on finds what the whole look-up finds: that is the invariant, and each arm of a turn is one law.
-use borrow.Author.Rules.{rules}
-use native.Mathlib.Omega.{arith}
-use mathlib.Core.Path.{sym, ◌∙◌}
 use Prim.Native.Nat.{◌-◌}
-use Rattle.grammar.specs.Table.{table}
-use Rattle.grammar.specs.Laws.Table.{Sought, sought_start, sought_here, other_type, other_parent, sought_end}
-use mathlib.Core.Logic.{⊎_elim}
+use Rattle.grammar.specs.Laws.Table.{Sought}
 use Rattle.grammar.proofs.row_of.Given as goal
 
 abbrev pub invariant-loop-i : goal.invariant-loop-i

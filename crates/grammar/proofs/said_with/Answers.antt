@@ -1,5 +1,4 @@
 -- By the three cases.
-use borrow.Author.Rules.{rules}
 use Rattle.grammar.specs.Walk.{said_with}
 use Rattle.grammar.proofs.said_with.Goals as goal
 

@@ -1,10 +1,6 @@
 -- The invariant says which fields are met so far; one law each for the start, an element, a fault and the end.
-use borrow.Author.Rules.{rules}
-use native.Mathlib.Omega.{arith}
-use mathlib.Core.Path.{sym, ◌∙◌}
-use Prim.Native.Nat.{◌-◌, ◌<◌}
-use Rattle.grammar.specs.Laws.Walk.{Walking, walking_start, walking_end, walking_bad, walking_more, order_small}
-use Rattle.wire.specs.Laws.Within.{read_is}
+use Prim.Native.Nat.{◌-◌}
+use Rattle.grammar.specs.Laws.Walk.{Walking}
 use lib.ListN.{length}
 use Rattle.grammar.proofs.walk.Given as goal
 

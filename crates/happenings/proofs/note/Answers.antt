@@ -1,5 +1,4 @@
 -- A row below the last is stored; past the last a store would change nothing.
-use borrow.Author.Rules.{rules}
 use native.Mathlib.Omega.{arith}
 use mathlib.Core.Path.{refl, sym}
 use lib.Seq.{set_out}

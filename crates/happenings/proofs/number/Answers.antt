@@ -1,5 +1,4 @@
 -- By case: each fate has its number.
-use borrow.Author.Rules.{rules}
 use Rattle.records.specs.Rows.{fate_number}
 use Rattle.happenings.specs.Noted.{fate_in}
 use Rattle.happenings.proofs.number.Goals as goal

@@ -5,7 +5,7 @@ use Rattle.laws.specs.Pick.{pick}
 use Rattle.grammar.specs.declared.Place.{Place}
 use Rattle.packethead.specs.declared.header.Nacked.{Nacked}
 use Rattle.packethead.specs.declared.header.Header.{Header}
-use Rattle.packethead.specs.Header.{Bare, Came, refused, bare}
+use Rattle.packethead.specs.Header.{Came, refused, bare}
 
 -- the bytes at a place of l; none where the place does not lie within l
 unfoldable pub part_at : List ℕ → Place → List ℕ

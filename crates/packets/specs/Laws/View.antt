@@ -1,7 +1,7 @@
 -- What the code's places point at is what the packet means: the bytes at a name's place are the name, and the byte at a HopLimit's place is
 -- the limit.
 -- Assumes nothing.
-use Rattle.std.specs.Prelude.{ℕ, ◌+◌, ◌-◌, ◌≤◌, ◌<◌, Bool, List, [], ◌∷◌, take, drop}
+use Rattle.std.specs.Prelude.{ℕ, ◌+◌, ◌-◌, ◌≤◌, ◌<◌, Bool, List, [], ◌∷◌, drop}
 use Rattle.std.proofs.Math.Path.{◌≡◌, refl, sym, ap}
 use Rattle.std.proofs.Common.{◌∙◌, get_or-take, get_or-drop, eqb-true, zero-add, add-zero, arith}
 use Rattle.std.proofs.Math.Option.{some}
@@ -23,7 +23,7 @@ use Rattle.packethead.specs.Places.Header.{part_at}
 use Rattle.packets.specs.Bare.{Reading, bare_read}
 use Rattle.packets.specs.Places.Bare.{hop_in, interest_in, packet_in}
 use Rattle.packets.specs.Bare as bare
-use Rattle.packets.specs.Meaning.{refused, asks, brings, nacks, hop_of, ask_of, offer_of, leaving, meant, heard_bare}
+use Rattle.packets.specs.Meaning.{nacks, hop_of, ask_of, offer_of, leaving, meant, heard_bare}
 use Rattle.packethead.specs.Laws.Part.{part_field}
 use Rattle.packets.specs.Laws.Shape.{IsInterest, IsData, last_in, asks_made, brings_made, nacks_made}
 use Rattle.packets.specs.Places.View.{hop_seen, ask_seen, lowered, seen}

@@ -13,7 +13,6 @@ use Rattle.grammar.specs.Places.Walk.{place_in, found_in}
 use Rattle.packethead.specs.declared.header.Nacked.{Nacked}
 use Rattle.packets.specs.declared.bare.Hop.{Hop}
 use Rattle.packets.specs.declared.bare.Interest.{Interest}
-use Rattle.packets.specs.declared.bare.Data.{Data}
 use Rattle.packets.specs.declared.bare.Packet.{Packet}
 use Rattle.packethead.specs.Header.{val, bytes_in, present, whole_number}
 use Rattle.packethead.specs.Places.Header.{part_at}

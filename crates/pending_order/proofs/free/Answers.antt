@@ -1,5 +1,4 @@
 -- The trailing zeros of the complement are the lowest row that is not used.
-use borrow.Author.Rules.{rules}
 use native.Mathlib.Omega.{arith}
 use Prim.Native.Nat.{◌-◌, ◌^◌}
 use lib.Count.{trailing_le}

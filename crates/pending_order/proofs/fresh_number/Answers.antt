@@ -1,5 +1,4 @@
 -- The next number is above all, and so is the number of rows once these are numbered anew.
-use borrow.Author.Rules.{rules}
 use native.Mathlib.Omega.{arith}
 use mathlib.Core.Path.{sym, ◌∙◌}
 use Rattle.sizes.specs.Sizes.{most_entries}

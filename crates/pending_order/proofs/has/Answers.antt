@@ -1,5 +1,4 @@
 -- Of a row the shift gives the digit; a number that is no row is in no set.
-use borrow.Author.Rules.{rules}
 use native.Mathlib.Omega.{arith}
 use mathlib.Core.Path.{sym}
 use lib.Pow.{pow_mono}

@@ -1,6 +1,5 @@
 -- The test says which.
 -- src/lib.rt:52:9
-use borrow.Author.Rules.{rules}
 use Rattle.laws.specs.Pick.{pick}
 use Rattle.pending_order.proofs.kept.Goals as goal
 

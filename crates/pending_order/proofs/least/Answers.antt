@@ -1,5 +1,4 @@
 -- The loop's invariant: of the rows that are not left, the best was opened first.
-use borrow.Author.Rules.{rules}
 use native.Mathlib.Omega.{arith}
 use mathlib.Core.Path.{refl, ◌∙◌}
 use mathlib.Core.Bool.{true}
@@ -7,7 +6,7 @@ use lib.Count.{trailing_le}
 use Rattle.laws.specs.Laws.Digits.{lowest}
 use Rattle.sizes.specs.Sizes.{most_entries}
 use Rattle.pending_order.specs.Laws.Table.{first_of_all}
-use Rattle.pending_order.specs.Laws.Walk.{Passed, passed_start, passed_yes, passed_end, digit_less}
+use Rattle.pending_order.specs.Laws.Walk.{passed_start, passed_yes, passed_end, digit_less}
 use Rattle.pending_order.proofs.least.Goals as goal
 
 pub overflow_cast-row : goal.overflow_cast-row

@@ -1,13 +1,7 @@
 -- The loop's invariant: of the rows that are not left, the best was opened first.
-use borrow.Author.Rules.{rules}
-use native.Mathlib.Omega.{arith}
-use mathlib.Core.Path.{refl, ◌∙◌}
 use mathlib.Core.Bool.{true}
-use lib.Count.{trailing_le}
-use Rattle.laws.specs.Laws.Digits.{lowest}
 use Rattle.sizes.specs.Sizes.{most_entries}
-use Rattle.pending_order.specs.Laws.Table.{first_of_all}
-use Rattle.pending_order.specs.Laws.Walk.{Passed, passed_start, passed_yes, passed_end, digit_less}
+use Rattle.pending_order.specs.Laws.Walk.{Passed}
 use Rattle.pending_order.proofs.least.Given as goal
 
 abbrev pub invariant-loop-row : goal.invariant-loop-row

@@ -1,15 +1,8 @@
 -- The loop's invariant: the number above all is above the largest so far and those that are left.
-use borrow.Author.Rules.{rules}
-use native.Mathlib.Omega.{arith}
-use mathlib.Core.Path.{◌≡◌, refl}
-use Prim.Native.Nat.{◌+◌, ◌^◌, ◌<◌}
-use borrow.Author.Tests.{lt-ltb, le-ltb}
-use lib.Count.{trailing_le}
-use Rattle.laws.specs.Laws.Digits.{lowest}
-use Rattle.laws.specs.Pick.{pick}
+use Prim.Native.Nat.{◌<◌}
 use Rattle.sizes.specs.Sizes.{most_entries}
-use Rattle.pending_order.specs.Laws.Walk.{Largest, largest_turn, largest_end, above_none, above_some, digit_less}
-use Rattle.pending_order.specs.Places.Rows.{next_in, above_of}
+use Rattle.pending_order.specs.Laws.Walk.{Largest}
+use Rattle.pending_order.specs.Places.Rows.{above_of}
 use Rattle.pending_order.proofs.next_number.Given as goal
 
 abbrev pub invariant-loop-row : goal.invariant-loop-row

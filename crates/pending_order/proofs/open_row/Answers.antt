@@ -1,5 +1,4 @@
 -- The lowest free row is given a number above all others.
-use borrow.Author.Rules.{rules}
 use native.Mathlib.Omega.{arith}
 use mathlib.Core.Path.{refl}
 use Rattle.laws.specs.Laws.Digits.{or_added}

@@ -1,5 +1,4 @@
 -- A row that is in the set loses its power of 2; anything else changes nothing.
-use borrow.Author.Rules.{rules}
 use native.Mathlib.Omega.{arith}
 use mathlib.Core.Path.{◌≡◌, sym}
 use lib.Pow.{pow_mono}

@@ -1,9 +1,8 @@
 -- The loop's invariant: the rows that are left are to be numbered from `next` on.
-use borrow.Author.Rules.{rules}
 use native.Mathlib.Omega.{arith}
 use Rattle.sizes.specs.Sizes.{most_entries}
 use Rattle.pending_order.specs.Laws.Table.{rows_here}
-use Rattle.pending_order.specs.Laws.Walk.{Numbering, numbering_start, numbering_room, numbering_turn, numbering_end, removed_less}
+use Rattle.pending_order.specs.Laws.Walk.{numbering_start, numbering_room, numbering_turn, numbering_end, removed_less}
 use Rattle.pending_order.proofs.renumber.Goals as goal
 
 pub loop-row-init : goal.loop-row-init

@@ -1,13 +1,11 @@
 -- A row is cut where its length word says, or not at all.
 -- to take the length or more is to take all
-use borrow.Author.Rules.{rules}
 use mathlib.Core.Path.{◌≡◌, refl, sym, ◌∙◌}
 use Prim.Native.Nat.{ℕ, ◌≤◌}
 use mathlib.Core.List.{List}
 use lib.ListN.{length, take}
 use lib.Seq.{take_all, take-length}
 use Rattle.laws.specs.Laws.Loop.{from_zero}
-use Rattle.rows.proofs.part.Reads as reads
 use Rattle.rows.proofs.part.Goals as goal
 
 whole : (n : ℕ) (l : List ℕ) → length l ≤ n → take (length l) l ≡ take n l

@@ -1,5 +1,4 @@
 -- The first bytes of a row are no more than the row has.
-use borrow.Author.Rules.{rules}
 use native.Mathlib.Omega.{arith}
 use lib.ListN.{length-take}
 use Rattle.store.proofs.bytes_in.Goals as goal

@@ -1,5 +1,4 @@
 -- A place below the number of Data has its Data; any other has none.
-use borrow.Author.Rules.{rules}
 use native.Mathlib.Omega.{arith}
 use Rattle.records.specs.Slots.{given}
 use Rattle.store.specs.Places.View.{stored_at, stored_of, data_of, place_is, view_at, view_past}

@@ -1,5 +1,4 @@
 -- One law where there is no best so far, and one where the two names are compared.
-use borrow.Author.Rules.{rules}
 use native.Mathlib.Omega.{arith}
 use Rattle.laws.specs.Pick.{pick}
 use Rattle.store.specs.Laws.Look.{earlier_alone, earlier_is}

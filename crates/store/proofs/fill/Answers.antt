@@ -1,5 +1,4 @@
 -- The row has room for the bytes, so they are written whole.
-use borrow.Author.Rules.{rules}
 use native.Mathlib.Omega.{arith}
 use Rattle.wire.specs.Laws.Write.{put_back}
 use Rattle.store.proofs.fill.Goals as goal

@@ -1,12 +1,9 @@
 -- The loop's invariant: the first of all Data with the name is the first from place i on.
-use borrow.Author.Rules.{rules}
 use native.Mathlib.Omega.{arith}
-use mathlib.Core.Path.{◌≡◌, sym, ap, ◌∙◌}
-use Prim.Native.Nat.{◌-◌}
+use mathlib.Core.Path.{sym, ap, ◌∙◌}
 use Rattle.laws.specs.Laws.Loop.{from_zero, first_hit, first_miss, first_end}
-use Rattle.laws.specs.Places.Loop.{first}
 use Rattle.names.specs.Name.{same_bytes}
-use Rattle.store.specs.Places.View.{stored_at, view_find}
+use Rattle.store.specs.Places.View.{view_find}
 use Rattle.store.specs.Places.Put.{is_named}
 use Rattle.store.proofs.find.Goals as goal
 

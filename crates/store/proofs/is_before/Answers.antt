@@ -1,5 +1,4 @@
 -- Each order by its name.
-use borrow.Author.Rules.{rules}
 use Rattle.records.specs.Stored.{is_before}
 use Rattle.store.proofs.is_before.Goals as goal
 

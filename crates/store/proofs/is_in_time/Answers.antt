@@ -1,5 +1,4 @@
 -- A Data stored later than now is in time; any other by what is left of its freshness.
-use borrow.Author.Rules.{rules}
 use mathlib.Core.Path.{sym}
 use Rattle.store.specs.Laws.Look.{in_time_any, in_time_early, in_time_young}
 use native.Mathlib.Omega.{arith}

@@ -1,5 +1,4 @@
 -- One question of the name: an equal name extends the name too.
-use borrow.Author.Rules.{rules}
 use mathlib.Core.Path.{sym, ap, ◌∙◌}
 use Rattle.names.specs.Name.{same_bytes, prefix_of}
 use Rattle.store.specs.Laws.Look.{answers_same, answers_prefix}

@@ -1,5 +1,4 @@
 -- Both tests of a lookup, the cheap one first.
-use borrow.Author.Rules.{rules}
 use mathlib.Core.Path.{sym, ◌∙◌}
 use Rattle.store.specs.Places.View.{stored_at}
 use Rattle.store.specs.Laws.Look.{serves_late, serves_named}

@@ -1,5 +1,4 @@
 -- A handle stands for a Data where its place is before the last.
-use borrow.Author.Rules.{rules}
 use native.Mathlib.Omega.{arith}
 use Rattle.records.specs.Slots.{is_some}
 use Rattle.store.specs.Places.View.{place_is, view_at, view_past}

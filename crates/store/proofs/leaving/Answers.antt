@@ -1,5 +1,4 @@
 -- The place of the equal name where that is a place of the store, else the first.
-use borrow.Author.Rules.{rules}
 use native.Mathlib.Omega.{arith}
 use borrow.Author.Tests.{lt-ltb, le-ltb}
 use mathlib.Core.Path.{sym}

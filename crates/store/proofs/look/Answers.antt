@@ -1,8 +1,7 @@
 -- The loop goes from the last Data to the first. Its invariant: `best` is what a lookup takes of the Data from place i on.
-use borrow.Author.Rules.{rules}
 use native.Mathlib.Omega.{arith}
 use mathlib.Core.Path.{◌≡◌, sym, ap, ◌∙◌}
-use Prim.Native.Nat.{◌-◌, ◌≤◌}
+use Prim.Native.Nat.{◌-◌}
 use Rattle.records.specs.Stored.{serves, earlier}
 use Rattle.store.specs.declared.Store.{Store}
 use Rattle.store.specs.Places.View.{view, place_is, view_length, view_count}

@@ -1,12 +1,7 @@
 -- The loop goes from the last Data to the first. Its invariant: `best` is what a lookup takes of the Data from place i on.
-use borrow.Author.Rules.{rules}
-use native.Mathlib.Omega.{arith}
-use mathlib.Core.Path.{◌≡◌, sym, ap, ◌∙◌}
-use Prim.Native.Nat.{◌-◌, ◌≤◌}
-use Rattle.records.specs.Stored.{serves, earlier}
-use Rattle.store.specs.declared.Store.{Store}
-use Rattle.store.specs.Places.View.{view, place_is, view_length, view_count}
-use Rattle.store.specs.Laws.Look.{best_end, best_taken, best_passed, best_all, place_of_lem}
+use mathlib.Core.Path.{◌≡◌}
+use Prim.Native.Nat.{◌≤◌}
+use Rattle.records.specs.Stored.{serves}
 use Rattle.store.specs.Places.Look.{hit_at, best_from}
 use Rattle.store.proofs.look.Given as goal
 

@@ -1,5 +1,4 @@
 -- The name of the bytes that the head cuts off the row.
-use borrow.Author.Rules.{rules}
 use mathlib.Core.Path.{ap, ◌∙◌}
 use Rattle.packethead.specs.Name.{name_of}
 use Rattle.store.specs.Places.View.{stored_at, stored_of, data_of}

@@ -1,5 +1,4 @@
 -- Bytes that are too long change nothing. Else a place is freed, and row and head are written after the last Data.
-use borrow.Author.Rules.{rules}
 use native.Mathlib.Omega.{arith}
 use Rattle.store.specs.Laws.Put.{put_long, put_short}
 use Rattle.store.proofs.put.Goals as goal

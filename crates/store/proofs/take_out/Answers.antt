@@ -1,12 +1,8 @@
 -- The loop's invariant: all moves of the tables at the start are the moves left of the tables now.
-use borrow.Author.Rules.{rules}
 use native.Mathlib.Omega.{arith}
-use mathlib.Core.List.{[]}
-use mathlib.Core.Path.{◌≡◌, refl, sym, ◌∙◌}
-use Prim.Native.Nat.{◌-◌, ◌+◌, ◌≤◌}
+use mathlib.Core.Path.{refl, sym, ◌∙◌}
 use Rattle.laws.specs.Laws.Tab.{without_out}
 use Rattle.laws.specs.Places.Rows.{down}
-use Rattle.laws.specs.Places.Loop.{turns}
 use Rattle.laws.specs.Laws.Loop.{turns_turn, turns_end}
 use Rattle.store.specs.Places.View.{view_without, view_length, view_count}
 use Rattle.store.proofs.take_out.Goals as goal

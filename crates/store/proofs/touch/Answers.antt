@@ -1,5 +1,4 @@
 -- A Data is taken out and written after the last. The last is the most recent already, and past it nothing changes.
-use borrow.Author.Rules.{rules}
 use native.Mathlib.Omega.{arith}
 use Rattle.store.specs.Places.View.{place_is, view_state}
 use Rattle.store.specs.Laws.Put.{last_stays, touch_is}

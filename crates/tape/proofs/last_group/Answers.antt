@@ -1,5 +1,4 @@
 -- One law for each outcome.
-use borrow.Author.Rules.{rules}
 use native.Mathlib.Omega.{arith}
 use mathlib.Core.Path.{sym}
 use Rattle.tape.specs.Laws.Number.{group_fits, closed_alone, closed_zero, closed_is, closed_tenth, closed_large}

@@ -1,10 +1,7 @@
 -- The invariant says that the groups passed stand in front of those at i; one law each for a turn and for the ways to end.
-use borrow.Author.Rules.{rules}
 use native.Mathlib.Omega.{arith}
 use mathlib.Core.Path.{sym, ◌∙◌}
-use Prim.Native.Nat.{◌-◌}
-use Rattle.tape.specs.Laws.Number.{Passing, unit_small, passing_none, passing_more, turn_fits, number_cut, number_long, number_last}
-use lib.ListN.{length}
+use Rattle.tape.specs.Laws.Number.{unit_small, passing_none, passing_more, turn_fits, number_cut, number_long, number_last}
 use Rattle.tape.proofs.number_at.Goals as goal
 
 pub loop-i-init : goal.loop-i-init

@@ -1,5 +1,4 @@
 -- `element_len` meets its contract: an element has the widths of its type and of its length, and its value.
-use borrow.Author.Rules.{rules}
 use native.Mathlib.Omega.{arith}
 use mathlib.Core.Path.{◌∙◌}
 use Rattle.writing.specs.Laws.Size.{length_written}

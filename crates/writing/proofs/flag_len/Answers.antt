@@ -1,5 +1,4 @@
 -- `flag_len` meets its contract: a flag that is set is an element without a value.
-use borrow.Author.Rules.{rules}
 use mathlib.Core.Path.{refl}
 use Rattle.writing.specs.Written.{flag}
 use Rattle.laws.specs.Pick.{pick}

@@ -1,5 +1,4 @@
 -- `lower` meets its contract: each way out is one of its cases.
-use borrow.Author.Rules.{rules}
 use Rattle.laws.specs.Pick.{pick}
 use borrow.Author.Tests.{lt-ltb, le-ltb}
 use Rattle.writing.proofs.lower.Goals as goal

@@ -1,5 +1,4 @@
 -- `nack_len` meets its contract: the value is two elements, one after the other, and has few bytes more than the name.
-use borrow.Author.Rules.{rules}
 use native.Mathlib.Omega.{arith}
 use mathlib.Core.Path.{◌∙◌}
 use Rattle.writing.specs.Laws.Written.{element_most, reason_most, request_most, nack_most}

@@ -1,5 +1,4 @@
 -- `reason_len` meets its contract: a NackReason that is not left out is an element of one byte.
-use borrow.Author.Rules.{rules}
 use mathlib.Core.Path.{refl}
 use Rattle.writing.specs.Written.{reason_bytes}
 use Rattle.laws.specs.Pick.{pick}

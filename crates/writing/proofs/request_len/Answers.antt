@@ -1,5 +1,4 @@
 -- `request_len` meets its contract: the value is its four parts, one after the other, and has few bytes more than the name.
-use borrow.Author.Rules.{rules}
 use native.Mathlib.Omega.{arith}
 use mathlib.Core.Path.{refl, ◌∙◌}
 use Rattle.writing.specs.Laws.Written.{element_most, flag_most, request_most}

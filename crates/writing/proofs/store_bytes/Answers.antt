@@ -1,5 +1,4 @@
 -- `store_bytes` meets its contract: there is room, so that `put_bytes` finds it.
-use borrow.Author.Rules.{rules}
 use native.Mathlib.Omega.{arith}
 use Rattle.writing.specs.Laws.Stored.{put_next, put_full, stored_length}
 use Rattle.writing.proofs.store_bytes.Goals as goal

@@ -1,5 +1,4 @@
 -- `store_cause` meets its contract: the head and then the NackReason are the Nack.
-use borrow.Author.Rules.{rules}
 use Rattle.writing.specs.Laws.Stored.{room_head, room_value, stored_element, stored_length}
 use Rattle.writing.proofs.store_cause.Goals as goal
 

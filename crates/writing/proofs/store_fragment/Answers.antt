@@ -1,5 +1,4 @@
 -- `store_fragment` meets its contract: the head and then the Interest are the Fragment.
-use borrow.Author.Rules.{rules}
 use native.Mathlib.Omega.{arith}
 use Rattle.writing.specs.Laws.Stored.{room_head, room_value, stored_element, stored_length}
 use Rattle.writing.specs.Written.{request_bytes}

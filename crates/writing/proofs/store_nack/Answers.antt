@@ -1,5 +1,4 @@
 -- `store_nack` meets its contract: the head and then the value are the Nack.
-use borrow.Author.Rules.{rules}
 use Rattle.writing.specs.Laws.Stored.{room_head, room_value, stored_element, stored_length}
 use Rattle.writing.specs.Laws.Size.{nack_is}
 use Rattle.writing.proofs.store_nack.Goals as goal

@@ -1,5 +1,4 @@
 -- `store_nonce` meets its contract: the array is the four bytes of the nonce.
-use borrow.Author.Rules.{rules}
 use Rattle.writing.specs.Laws.Stored.{stored_length}
 use Rattle.writing.specs.Laws.Written.{nonce_bytes}
 use Rattle.writing.proofs.store_nonce.Goals as goal

@@ -1,5 +1,4 @@
 -- `store_reason` meets its contract: a NackReason that is not left out is an element of one byte.
-use borrow.Author.Rules.{rules}
 use Rattle.writing.specs.Laws.Stored.{stored_none, stored_length}
 use Rattle.writing.specs.Written.{reason_bytes}
 use Rattle.laws.specs.Pick.{pick}

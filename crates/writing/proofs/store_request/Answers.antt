@@ -1,5 +1,4 @@
 -- `store_request` meets its contract: the head and then the value are the Interest.
-use borrow.Author.Rules.{rules}
 use Rattle.writing.specs.Laws.Stored.{room_head, room_value, stored_element, stored_length}
 use Rattle.writing.specs.Written.{request_bytes}
 use Rattle.writing.proofs.store_request.Goals as goal

@@ -1,5 +1,4 @@
 -- `write_interest` meets its contract: `put_bytes` stores the bytes as they came if they fit, and `lower` then replaces one of them.
-use borrow.Author.Rules.{rules}
 use native.Mathlib.Omega.{arith}
 use mathlib.Core.Path.{ap}
 use Rattle.writing.specs.Laws.Stored.{put_next, put_full, next_put, full_put, stored_set, stored_length}

@@ -1,5 +1,4 @@
 -- `write_nack` meets its contract: where the whole Nack fits, `store_nack` stores it, and else nothing is stored.
-use borrow.Author.Rules.{rules}
 use native.Mathlib.Omega.{arith}
 use mathlib.Core.Path.{refl}
 use Rattle.writing.specs.Laws.Stored.{rest_fits, rest_short, stored_length, next_put, full_put}
@@ -35,5 +34,5 @@ pub returns : goal.returns
 returns c =
     let args = c.args in
     let room : Room args.buf.now args.at (nack_bytes args.reason args.name.now args.prefix args.fresh args.nonce) =
-        rw nack_is (rest_fits _ _ _ (c.element_len-len.ensures _ (c.nack_len.ensures args.nonce)) c.if-buf-at.false c.if-buf-at-2.false) in
+    rw nack_is (rest_fits _ _ _ (c.element_len-len.ensures _ (c.nack_len.ensures args.nonce)) c.if-buf-at.false c.if-buf-at-2.false) in
     next_put _ _ _ _ room c.store_nack.ensures

@@ -1,5 +1,4 @@
 -- The faces that are open and ad hoc are those of both sets that are not point-to-point.
-use borrow.Author.Rules.{rules}
 use mathlib.Core.Path.{sym, ◌∙◌}
 use Prim.Native.Nat.{ℕ}
 use mathlib.Core.Bool.{Bool, ◌&&◌}

@@ -1,5 +1,4 @@
 -- The open faces are those of their set.
-use borrow.Author.Rules.{rules}
 use mathlib.Core.Path.{sym, ◌∙◌}
 use Rattle.sizes.specs.Sizes.{most_faces}
 use Rattle.faces.specs.Laws.Set.{where_ext}

@@ -1,5 +1,4 @@
 -- A face that is open and not point-to-point is asked of the set of the ad hoc ones.
-use borrow.Author.Rules.{rules}
 use mathlib.Core.Path.{sym, ◌∙◌}
 use Rattle.faces.specs.Laws.View.{adhoc_is}
 use Rattle.faces.proofs.Faces.is_ad_hoc.Goals as goal

@@ -1,5 +1,4 @@
 -- A face that is open is asked of the set of the local ones.
-use borrow.Author.Rules.{rules}
 use mathlib.Core.Path.{sym, ◌∙◌}
 use Rattle.faces.specs.Laws.View.{local_is}
 use Rattle.faces.proofs.Faces.is_local.Goals as goal

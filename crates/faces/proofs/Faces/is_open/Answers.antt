@@ -1,5 +1,4 @@
 -- The set of the open faces has the answer.
-use borrow.Author.Rules.{rules}
 use Rattle.faces.specs.Laws.View.{open_is}
 use Rattle.faces.proofs.Faces.is_open.Goals as goal
 

@@ -1,5 +1,4 @@
 -- The set of the open faces loses the face.
-use borrow.Author.Rules.{rules}
 use mathlib.Core.Path.{refl}
 use Rattle.faces.specs.Laws.View.{with_closed}
 use Rattle.faces.proofs.Faces.with_closed.Goals as goal

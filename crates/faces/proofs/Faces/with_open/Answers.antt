@@ -1,5 +1,4 @@
 -- One law for the three link types: the face is put into each set or taken out of it.
-use borrow.Author.Rules.{rules}
 use mathlib.Core.Path.{refl}
 use mathlib.Core.Bool.{true, false}
 use Rattle.faces.specs.Laws.View.{with_open}

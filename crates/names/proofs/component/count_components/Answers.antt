@@ -1,7 +1,6 @@
 -- The invariant: what is left, judged behind what was met and counted, is the answer. One law for each way that a turn ends.
-use Rattle.std.proofs.Common.{◌≡◌, ◌-◌, ◌≤◌, length, drop, sym, ◌∙◌, arith, rules}
-use Rattle.names.specs.Name.{components, counted}
-use Rattle.names.specs.Laws.Name.{judged_from, judged_first, judged_end, judged_fault, judged_high, judged_more}
+use Rattle.std.proofs.Common.{sym, ◌∙◌, arith, rules}
+use Rattle.names.specs.Laws.Name.{judged_first, judged_end, judged_fault, judged_high, judged_more}
 use Rattle.laws.specs.Pick.{pick}
 use Rattle.wire.specs.Laws.Within.{read_is}
 use Rattle.names.proofs.component.count_components.Goals as goal

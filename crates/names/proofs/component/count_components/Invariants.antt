@@ -1,9 +1,7 @@
 -- The invariant: what is left, judged behind what was met and counted, is the answer. One law for each way that a turn ends.
-use Rattle.std.proofs.Common.{◌≡◌, ◌-◌, ◌≤◌, length, drop, sym, ◌∙◌, arith, rules}
+use Rattle.std.proofs.Common.{◌≡◌, ◌-◌, ◌≤◌, length, drop}
 use Rattle.names.specs.Name.{components, counted}
-use Rattle.names.specs.Laws.Name.{judged_from, judged_first, judged_end, judged_fault, judged_high, judged_more}
-use Rattle.laws.specs.Pick.{pick}
-use Rattle.wire.specs.Laws.Within.{read_is}
+use Rattle.names.specs.Laws.Name.{judged_from}
 use Rattle.names.proofs.component.count_components.Given as goal
 
 abbrev pub invariant-loop-at : goal.invariant-loop-at

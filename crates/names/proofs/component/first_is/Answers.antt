@@ -1,5 +1,5 @@
 -- One law for each outcome; the value that the element names lies within the name.
-use Rattle.std.proofs.Common.{sym, ◌∙◌, arith, rules}
+use Rattle.std.proofs.Common.{sym, ◌∙◌, arith}
 use native.Mathlib.Nat.{add-sub_cancel_left}
 use Rattle.names.specs.Laws.Name.{first_none, first_other, first_word}
 use Rattle.wire.specs.Laws.Within.{read_is}

@@ -1,5 +1,4 @@
 -- The word of the comparison is the definition's list of bytes.
-use Rattle.std.proofs.Common.{rules}
 use Rattle.names.specs.Name.{under_localhop}
 use Rattle.names.proofs.component.under_localhop.Goals as goal
 

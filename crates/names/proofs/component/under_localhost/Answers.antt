@@ -1,5 +1,4 @@
 -- The word of the comparison is the definition's list of bytes.
-use Rattle.std.proofs.Common.{rules}
 use Rattle.names.specs.Name.{under_localhost}
 use Rattle.names.proofs.component.under_localhost.Goals as goal
 

@@ -1,5 +1,4 @@
 -- The name by one call, the nonce by a step for each of its bytes.
-use Rattle.std.proofs.Common.{rules}
 use Rattle.names.specs.Laws.Fingerprint.{fingerprint_steps}
 use Rattle.names.proofs.fingerprint.fingerprint_from.Goals as goal
 

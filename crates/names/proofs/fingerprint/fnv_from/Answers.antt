@@ -1,6 +1,5 @@
 -- The invariant: over what is left, from here on, FNV-1a is the answer.
-use Rattle.std.proofs.Common.{◌≡◌, ◌-◌, ◌≤◌, length, drop, sym, ◌∙◌, rules}
-use Rattle.names.specs.Fingerprint.{fnv}
+use Rattle.std.proofs.Common.{sym, ◌∙◌, rules}
 use Rattle.names.specs.Laws.Fingerprint.{fnv_more, fnv_end}
 use Rattle.names.proofs.fingerprint.fnv_from.Goals as goal
 

@@ -1,7 +1,6 @@
 -- The invariant: over what is left, from here on, FNV-1a is the answer.
-use Rattle.std.proofs.Common.{◌≡◌, ◌-◌, ◌≤◌, length, drop, sym, ◌∙◌, rules}
+use Rattle.std.proofs.Common.{◌≡◌, ◌-◌, ◌≤◌, length, drop}
 use Rattle.names.specs.Fingerprint.{fnv}
-use Rattle.names.specs.Laws.Fingerprint.{fnv_more, fnv_end}
 use Rattle.names.proofs.fingerprint.fnv_from.Given as goal
 
 abbrev pub invariant-loop-i : goal.invariant-loop-i

@@ -1,5 +1,5 @@
 -- The machine's xor with a byte changes the lowest eight digits alone.
-use Rattle.std.proofs.Common.{◌∙◌, arith, rules}
+use Rattle.std.proofs.Common.{◌∙◌, arith}
 use Rattle.names.specs.Laws.Fingerprint.{stepped_xor}
 use Rattle.names.proofs.fingerprint.fnv_step.Goals as goal
 

@@ -1,8 +1,7 @@
 -- The components that are left of both decide: one law for each pair of answers of the cursor.
-use Rattle.std.proofs.Common.{◌≡◌, ◌-◌, length, sym, refl, ◌∙◌, arith, rules}
-use Rattle.names.specs.Order.{canonical, canonical_order, and_then}
-use Rattle.names.specs.Laws.Order.{components_from, both_end, first_ends, second_ends, both_go_on}
-use Rattle.wire.specs.Laws.Within.{read_is}
+use Rattle.std.proofs.Common.{◌≡◌, ◌-◌, length}
+use Rattle.names.specs.Order.{canonical, canonical_order}
+use Rattle.names.specs.Laws.Order.{components_from}
 use Rattle.names.proofs.order.compare.Given as goal
 
 abbrev pub invariant-loop-x : goal.invariant-loop-x

@@ -1,6 +1,5 @@
 -- What is left of both from a place on decides: one law for a turn, and one for each way out.
-use Rattle.std.proofs.Common.{◌≡◌, ◌-◌, ◌≤◌, length, drop, sym, ◌∙◌, arith, rules}
-use Rattle.names.specs.Order.{lexical}
+use Rattle.std.proofs.Common.{sym, ◌∙◌, arith}
 use Rattle.names.specs.Laws.Order.{lexical_less, lexical_more, lexical_next, lexical_longer, lexical_shorter, lexical_end}
 use Rattle.names.proofs.order.compare_bytes.Goals as goal
 

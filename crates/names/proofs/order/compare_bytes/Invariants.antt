@@ -1,7 +1,6 @@
 -- What is left of both from a place on decides: one law for a turn, and one for each way out.
-use Rattle.std.proofs.Common.{◌≡◌, ◌-◌, ◌≤◌, length, drop, sym, ◌∙◌, arith, rules}
+use Rattle.std.proofs.Common.{◌≡◌, ◌-◌, ◌≤◌, length, drop}
 use Rattle.names.specs.Order.{lexical}
-use Rattle.names.specs.Laws.Order.{lexical_less, lexical_more, lexical_next, lexical_longer, lexical_shorter, lexical_end}
 use Rattle.names.proofs.order.compare_bytes.Given as goal
 
 abbrev pub invariant-loop-i : goal.invariant-loop-i

@@ -1,5 +1,5 @@
 -- Types, then lengths, then bytes decide: one law for each way out.
-use Rattle.std.proofs.Common.{sym, ◌∙◌, arith, rules}
+use Rattle.std.proofs.Common.{sym, ◌∙◌, arith}
 use Rattle.names.specs.Laws.Order.{type_less, type_more, length_less, length_more, bytes_decide}
 use native.Mathlib.Nat.{add-sub_cancel_left}
 use Rattle.names.proofs.order.compare_components.Goals as goal

@@ -1,5 +1,5 @@
 -- The bytes of b up to the length of a are compared with a.
-use Rattle.std.proofs.Common.{sym, rules}
+use Rattle.std.proofs.Common.{sym}
 use Rattle.names.specs.Name.{prefix_of}
 use Rattle.names.specs.Laws.Same.{prefix_longer}
 use native.Mathlib.Nat.{sub-zero}

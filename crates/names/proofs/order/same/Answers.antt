@@ -1,6 +1,5 @@
 -- What is left of both from a place on decides: one law for a turn, and one for each way out.
-use Rattle.std.proofs.Common.{◌≡◌, ◌-◌, ◌≤◌, length, drop, sym, ◌∙◌, arith, rules}
-use Rattle.names.specs.Name.{same_bytes}
+use Rattle.std.proofs.Common.{sym, ◌∙◌, arith}
 use Rattle.names.specs.Laws.Same.{same_lengths, same_step, same_differ, same_end}
 use Rattle.names.proofs.order.same.Goals as goal
 

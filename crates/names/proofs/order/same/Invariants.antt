@@ -1,7 +1,6 @@
 -- What is left of both from a place on decides: one law for a turn, and one for each way out.
-use Rattle.std.proofs.Common.{◌≡◌, ◌-◌, ◌≤◌, length, drop, sym, ◌∙◌, arith, rules}
+use Rattle.std.proofs.Common.{◌≡◌, ◌-◌, ◌≤◌, length, drop}
 use Rattle.names.specs.Name.{same_bytes}
-use Rattle.names.specs.Laws.Same.{same_lengths, same_step, same_differ, same_end}
 use Rattle.names.proofs.order.same.Given as goal
 
 abbrev pub invariant-loop-i : goal.invariant-loop-i

@@ -1,5 +1,4 @@
 -- The place lies within s at the last return, and not at the others.
-use borrow.Author.Rules.{rules}
 use native.Mathlib.Omega.{arith}
 use mathlib.Core.Path.{sym}
 use Rattle.packethead.specs.Laws.Part.{part_is, part_none}

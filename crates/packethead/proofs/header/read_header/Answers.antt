@@ -1,5 +1,4 @@
 -- One law for each outcome, over the element e that is read and the row r of its type.
-use borrow.Author.Rules.{rules}
 use native.Mathlib.Omega.{arith}
 use mathlib.Core.Path.{sym, ◌∙◌}
 use Rattle.packethead.specs.Laws.Header.{header_long, header_bad, header_more, header_unknown, header_lp_read, header_bare}

@@ -1,5 +1,4 @@
 -- One law for each outcome, over what the walk over s and the walk over the Nack's bytes found.
-use borrow.Author.Rules.{rules}
 use native.Mathlib.Omega.{arith}
 use mathlib.Core.Path.{sym, ◌∙◌}
 use Rattle.packethead.specs.Laws.Header.{lp_bad, lp_nack_bad, lp_none, lp_bare}

@@ -1,5 +1,4 @@
 -- The number is the one that is read, or 0 where none is.
-use borrow.Author.Rules.{rules}
 use mathlib.Core.Path.{sym, ◌∙◌}
 use Rattle.packethead.specs.Laws.Part.{whole_bad, whole_is}
 use Rattle.packethead.proofs.header.whole_of.Goals as goal

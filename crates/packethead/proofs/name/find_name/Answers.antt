@@ -1,5 +1,4 @@
 -- The Name is the one in the value of the element e that is read.
-use borrow.Author.Rules.{rules}
 use native.Mathlib.Omega.{arith}
 use mathlib.Core.Path.{sym, ◌∙◌}
 use Rattle.packethead.specs.Laws.Find.{name_none, name_at}

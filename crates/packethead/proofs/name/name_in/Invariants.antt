@@ -1,12 +1,7 @@
 -- The first Name from the place on is the first of all: that is the invariant, and each arm of a turn is one law.
-use borrow.Author.Rules.{rules}
-use native.Mathlib.Omega.{arith}
-use mathlib.Core.Path.{sym, ◌∙◌}
 use Prim.Native.Nat.{◌-◌}
-use Rattle.packethead.specs.Laws.Find.{Finding, finding_start, finding_end, finding_bad, finding_name, finding_more}
-use Rattle.wire.specs.Laws.Within.{read_is}
+use Rattle.packethead.specs.Laws.Find.{Finding}
 use lib.ListN.{length}
-use native.Mathlib.Nat.{add-sub_cancel_left}
 use Rattle.packethead.proofs.name.name_in.Given as goal
 
 abbrev pub invariant-loop-at : goal.invariant-loop-at

@@ -1,5 +1,4 @@
 -- Each part is what its function ensures of a place that the walk found; together they are one law.
-use borrow.Author.Rules.{rules}
 use mathlib.Core.Path.{sym}
 use Rattle.packets.specs.Laws.Bare.{found_fits, interest_found}
 use Rattle.packets.proofs.bare.made.Goals as goal

@@ -1,5 +1,4 @@
 -- One test after the other, as in the definition.
-use borrow.Author.Rules.{rules}
 use borrow.Author.Tests.{lt-ltb, le-ltb}
 use mathlib.Core.Path.{sym, ◌∙◌}
 use Rattle.packets.specs.Laws.Bare.{found_length, found_moved, found_fits}

@@ -1,5 +1,4 @@
 -- By the two cases.
-use borrow.Author.Rules.{rules}
 use Rattle.packets.specs.Places.Bare.{nacked_packet}
 use Rattle.packets.proofs.bare.with_nack.Goals as goal
 

@@ -1,6 +1,5 @@
 -- Eight bytes are two halves.
 -- Eight bytes are two halves.
-use borrow.Author.Rules.{rules}
 use Rattle.wire.specs.Laws.Read.{halves}
 use Rattle.wire.proofs.read.eight_at.Goals as goal
 

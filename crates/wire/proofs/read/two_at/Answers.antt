@@ -1,5 +1,4 @@
 -- A byte is below 256, which bounds the number; its value is the law of two bytes.
-use borrow.Author.Rules.{rules}
 use native.Mathlib.Omega.{arith}
 use Prim.Native.Nat.{◌+◌}
 use Rattle.wire.specs.Laws.Read.{two_is}

@@ -1,10 +1,7 @@
 -- `copy` meets its contract. The loop's invariant: the first i bytes of src are in the buffer, from `at` on, and nothing else has
 -- changed. The measure is what is left of src.
-use Prim.Native.Nat.{◌-◌}
 use native.Mathlib.Omega.{arith}
-use borrow.Author.Rules.{rules}
-use lib.ListN.{length}
-use Rattle.laws.specs.Laws.Writes.{Copied, copied_none, copied_more, copied_all, copied_length}
+use Rattle.laws.specs.Laws.Writes.{copied_none, copied_more, copied_all, copied_length}
 use Rattle.wire.proofs.write.copy.Goals as goal
 
 pub loop-i-init : goal.loop-i-init

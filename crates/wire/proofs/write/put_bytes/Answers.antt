@@ -1,7 +1,6 @@
 -- `put_bytes` meets its contract: where `fits` says that there is room, `copy` stores the bytes, and else nothing is stored.
 use mathlib.Core.Path.{refl, sym, ◌∙◌}
 use native.Mathlib.Omega.{arith}
-use borrow.Author.Rules.{rules}
 use borrow.Author.Tests.{leb-true}
 use Rattle.wire.specs.Laws.Write.{wrote_fits, wrote_full}
 use Rattle.wire.proofs.write.put_bytes.Goals as goal

@@ -1,5 +1,4 @@
 -- `put_eight` meets its contract: its two calls store the two halves of `bytes_of 8`.
-use borrow.Author.Rules.{rules}
 use Rattle.wire.specs.Laws.Write.{halves_stored}
 use Rattle.wire.proofs.write.put_eight.Goals as goal
 

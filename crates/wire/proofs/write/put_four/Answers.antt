@@ -1,5 +1,4 @@
 -- `put_four` meets its contract: its two calls store the two halves of `bytes_of 4`.
-use borrow.Author.Rules.{rules}
 use Rattle.wire.specs.Laws.Write.{halves_stored}
 use Rattle.wire.proofs.write.put_four.Goals as goal
 

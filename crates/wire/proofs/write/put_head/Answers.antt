@@ -2,7 +2,6 @@
 -- and else nothing is stored.
 use mathlib.Core.Path.{sym, ◌∙◌}
 use native.Mathlib.Omega.{arith}
-use borrow.Author.Rules.{rules}
 use borrow.Author.Tests.{leb-true}
 use Rattle.wire.specs.Laws.Write.{width_most, length_head_of, head_stored, wrote_fits, wrote_full}
 use Rattle.wire.proofs.write.put_head.Goals as goal

@@ -2,7 +2,6 @@
 -- nothing is stored.
 use mathlib.Core.Path.{sym, ◌∙◌}
 use native.Mathlib.Omega.{arith}
-use borrow.Author.Rules.{rules}
 use borrow.Author.Tests.{leb-true}
 use Rattle.wire.specs.Laws.Write.{length_encoded, wrote_fits, wrote_full}
 use Rattle.wire.proofs.write.put_number.Goals as goal

@@ -1,7 +1,6 @@
 -- `put_shortest` meets its contract: each way out is one form of a number, whose width is the room that its stores need.
 use mathlib.Core.Path.{◌∙◌, ap}
 use native.Mathlib.Omega.{arith}
-use borrow.Author.Rules.{rules}
 use lib.ListN.{length, length-set}
 use lib.Seq.{length-sets}
 use Rattle.wire.specs.Laws.Write.{form_one, form_three, form_five, form_nine, short_stored, long_stored}
@@ -25,7 +24,7 @@ returns-then-n-lt65536 c =
     long_stored _ _ _ form c.put_two.ensures
 
 pub shape_of-buf-then-n-lt65536 : goal.shape_of-buf-then-n-lt65536
-shape_of-buf-then-n-lt65536 c = 
+shape_of-buf-then-n-lt65536 c =
     let form = form_three _ c.if-n-lt253.false c.if-n-lt65536.true in
     ap length (long_stored _ _ _ form c.put_two.ensures) ∙ simp length-sets
 
@@ -41,7 +40,7 @@ returns-then-n-lt4294967296 c =
     long_stored _ _ _ form c.put_four.ensures
 
 pub shape_of-buf-then-n-lt4294967296 : goal.shape_of-buf-then-n-lt4294967296
-shape_of-buf-then-n-lt4294967296 c = 
+shape_of-buf-then-n-lt4294967296 c =
     let form = form_five _ c.if-n-lt65536.false c.if-n-lt4294967296.true in
     ap length (long_stored _ _ _ form c.put_four.ensures) ∙ simp length-sets
 
@@ -57,6 +56,6 @@ returns c =
     long_stored _ _ _ form c.put_eight.ensures
 
 pub shape_of-buf : goal.shape_of-buf
-shape_of-buf c = 
+shape_of-buf c =
     let form = form_nine _ c.if-n-lt4294967296.false in
     ap length (long_stored _ _ _ form c.put_eight.ensures) ∙ simp length-sets

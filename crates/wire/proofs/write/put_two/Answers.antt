@@ -1,7 +1,6 @@
 -- `put_two` meets its contract: its two stores are those of `bytes_of 2`.
 use native.Mathlib.Omega.{arith}
 use native.Mathlib.Numerals.{add-one}
-use borrow.Author.Rules.{rules}
 use lib.ListN.{length-set}
 use Rattle.wire.specs.Write.{bytes_of}
 use Rattle.wire.proofs.write.put_two.Goals as goal

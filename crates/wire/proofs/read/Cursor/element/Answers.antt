@@ -1,5 +1,4 @@
 -- The form of a byte each is one law; the rest is the longer function.
-use borrow.Author.Rules.{rules}
 use native.Mathlib.Omega.{arith}
 use mathlib.Core.Path.{refl, sym}
 use Prim.Native.Nat.{◌+◌}

@@ -1,5 +1,4 @@
 -- One law for each outcome.
-use borrow.Author.Rules.{rules}
 use native.Mathlib.Omega.{arith}
 use mathlib.Core.Path.{sym, ◌∙◌}
 use Rattle.wire.specs.Laws.Read.{element_untyped, element_zero, element_large, element_unsized, element_long, element_is}

@@ -1,5 +1,4 @@
 -- One law for each outcome: no number, its shortest form, a longer one.
-use borrow.Author.Rules.{rules}
 use native.Mathlib.Omega.{arith}
 use mathlib.Core.Path.{sym, ◌∙◌}
 use Rattle.wire.specs.Laws.Read.{number_none, number_short, number_wider}
