@@ -8,7 +8,8 @@ use Rattle.pending_records.proofs.age.Goals as goal
 pub returns : goal.returns
 returns c =
     let a = c.args in
-    let over = c.over_in-over.ensures in (
-      λ nm. view_aged most_faces nm a.head.now a.recs.now a.time _ _ over c.less.ensures,
-      λ nm. over ∙ sym (view_overdue most_faces nm a.head.now a.recs.now a.time),
-    )
+    let over = c.over_in-over.ensures in
+    record {
+      aged = λ nm. view_aged most_faces nm a.head.now a.recs.now a.time _ _ over c.less.ensures;
+      overdue = λ nm. over ∙ sym (view_overdue most_faces nm a.head.now a.recs.now a.time);
+    }

@@ -22,8 +22,8 @@ loop-f-preserved c =
     let a = c.args in
     let e = c.earlier-best.ensures in (
       walks (omega arith) c.lowest-f-in-loop-f.ensures,
-      e.1,
-      l.invariant.2 ∙ least_turn l.invariant.0 a.recs.now (omega arith) c.remove-left.ensures l.best e.0,
+      e.within,
+      l.invariant.2 ∙ least_turn l.invariant.0 a.recs.now (omega arith) c.remove-left.ensures l.best e.earlier,
     )
 
 pub returns : goal.returns

@@ -10,7 +10,7 @@ use borrow.Author.Rules.{rules}
 use Rattle.pending_records.proofs.note_words.Given as goal
 
 abbrev pub invariant-loop-f : goal.invariant-loop-f
-invariant-loop-f l = Noting most_rows most_faces l.class (λ l.f. pick (has_face most_faces l.special l.f) l.own l.fate) l.recs l.initial.rows l.at l.set l.rows l.left l.next l.f
+invariant-loop-f l = Noting most_rows most_faces l.class (λ g. pick (has_face most_faces l.special g) l.own l.fate) l.recs l.initial.rows l.at l.set l.rows l.left l.next l.f
 
 abbrev pub decreases-loop-f : goal.decreases-loop-f
 decreases-loop-f l = l.left
