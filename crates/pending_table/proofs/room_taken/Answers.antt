@@ -14,3 +14,7 @@ overflow_add-result-2 c = unfold all_of in omega arith
 
 pub overflow_add-result-3 : goal.overflow_add-result-3
 overflow_add-result-3 c = unfold all_of in omega arith
+
+pub returns : goal.returns
+unfolding room_of reserve
+returns c = search rules
