@@ -9,7 +9,7 @@ returns-then-is_idle c =
     let a = c.args in
     λ e p.
     leaves_out (fingerprint a.start) a.time _ _ _ _ e p _ c.is_idle.ensures c.if-is_idle.true
-    _ c.bury-buried.ensures _ c.take_out.ensures.false _ c.take_out.ensures.chosen
+    _ c.bury-buried.ensures _ c.take_out.ensures.left _ c.take_out.ensures.chosen
 
 pub returns : goal.returns
 returns c =
