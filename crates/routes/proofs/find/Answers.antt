@@ -1,5 +1,4 @@
 -- The loop's invariant: a prefix is found among all routes where it is found from place i on.
--- whether the route at a place has a prefix
 use borrow.Author.Rules.{rules}
 use native.Mathlib.Omega.{arith}
 use mathlib.Core.Path.{◌≡◌, sym, ◌∙◌}
@@ -13,9 +12,6 @@ use Rattle.names.specs.Name.{same_bytes}
 use Rattle.records.specs.Route.{route_of}
 use Rattle.routes.specs.Places.View.{route_at, route_row, place_is, view_find}
 use Rattle.routes.proofs.find.Goals as goal
-
-abbrev Has : List ℕ → List (List ℕ) → List (List ℕ) → List (List ℕ) → ℕ → Bool
-Has prefix names heads costs k = same_bytes prefix (route_at most_faces names heads costs k).name
 
 pub loop-i-init : goal.loop-i-init
 loop-i-init c = rw from_zero

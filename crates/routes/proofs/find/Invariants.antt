@@ -1,5 +1,4 @@
 -- The loop's invariant: a prefix is found among all routes where it is found from place i on.
--- whether the route at a place has a prefix
 use borrow.Author.Rules.{rules}
 use native.Mathlib.Omega.{arith}
 use mathlib.Core.Path.{◌≡◌, sym, ◌∙◌}
@@ -13,6 +12,10 @@ use Rattle.names.specs.Name.{same_bytes}
 use Rattle.records.specs.Route.{route_of}
 use Rattle.routes.specs.Places.View.{route_at, route_row, place_is, view_find}
 use Rattle.routes.proofs.find.Given as goal
+
+-- whether the route at a place has a prefix
+abbrev Has : List ℕ → List (List ℕ) → List (List ℕ) → List (List ℕ) → ℕ → Bool
+Has prefix names heads costs k = same_bytes prefix (route_at most_faces names heads costs k).name
 
 abbrev pub invariant-loop-i : goal.invariant-loop-i
 invariant-loop-i l = first (Has l.prefix l.names l.heads l.costs) 0 l.n ≡ first (Has l.prefix l.names l.heads l.costs) l.i (l.n - l.i)

@@ -38,7 +38,7 @@ overflow_sub-next c = omega arith
 pub loop-set-smaller-then-next-cost : goal.loop-set-smaller-then-next-cost
 loop-set-smaller-then-next-cost c =
     let low = c.lowest-face.ensures in
-    rw c.remove-left-in-loop-set.ensures (lowest_less most_faces c.loop-set.false _
+    rw c.remove-left-in-loop-set.ensures (lowest_less most_faces c.loop-set.left _
     (omega arith) low (omega arith))
 
 pub loop-set-preserved-then-next-cost : goal.loop-set-preserved-then-next-cost
@@ -52,7 +52,7 @@ loop-set-preserved-then-next-cost c =
 pub loop-set-smaller : goal.loop-set-smaller
 loop-set-smaller c =
     let low = c.lowest-face.ensures in
-    rw c.remove-left-in-loop-set.ensures (lowest_less most_faces c.loop-set.false _
+    rw c.remove-left-in-loop-set.ensures (lowest_less most_faces c.loop-set.left _
     (omega arith) low (omega arith))
 
 pub loop-set-preserved : goal.loop-set-preserved

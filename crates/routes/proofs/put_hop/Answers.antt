@@ -13,7 +13,7 @@ returns c =
     let a = c.args in
     let there = (face_yes most_faces a.face).1 c.requires in
     let rows = c.has_all_faces.ensures in
-    rw c.add.ensures
+    λ name. rw c.add.ensures
     (row_put most_faces a.face name a.head.now a.cost a.row.now _ there
     (get_or-set_same a.row.now (a.face - 1) a.cost 0 (omega arith))
     (λ i d. get_or-set_other a.row.now (a.face - 1) i a.cost 0 d))

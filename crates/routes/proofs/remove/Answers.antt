@@ -16,10 +16,11 @@ pub returns-then-n-i : goal.returns-then-n-i
 returns-then-n-i c =
     let a = c.args in
     let len = view_length most_faces a.names.now a.heads.now a.costs.now a.routes in
-    let n = c.clamped-n in (
-      view_cut most_faces _ _ _ _ _ n.ensures ∙ rw place_is (sym (without_out _ _ (omega arith))),
-      view_state most_faces a.names.now a.heads.now a.costs.now _ (omega arith),
-    )
+    let n = c.clamped-n in
+    record {
+      gone = view_cut most_faces _ _ _ _ _ n.ensures ∙ rw place_is (sym (without_out _ _ (omega arith)));
+      state = view_state most_faces a.names.now a.heads.now a.costs.now _ (omega arith);
+    }
 
 pub loop-k-init : goal.loop-k-init
 loop-k-init c = (omega arith, omega arith, refl, refl, refl)
@@ -36,10 +37,11 @@ returns c =
     let a = c.args in
     let l = c.loop-k in
     let t = c.loop-k-test.false in
-    let m = c.clamped-n in (
-      rw place_is (rw (l.invariant.2 ∙ turns_end _ _ _ _ t, l.invariant.3 ∙ turns_end _ _ _ _ t, l.invariant.4 ∙ turns_end _ _ _ _ t)
+    let m = c.clamped-n in
+    record {
+      gone = rw place_is (rw (l.invariant.2 ∙ turns_end _ _ _ _ t, l.invariant.3 ∙ turns_end _ _ _ _ t, l.invariant.4 ∙ turns_end _ _ _ _ t)
           at (view_without most_faces a.names.now a.heads.now a.costs.now a.routes a.route.at m.result
           (sym m.ensures)
-          (omega arith) (omega arith) (omega arith) (omega arith))),
-      view_state most_faces _ _ _ _ (omega arith),
-    )
+          (omega arith) (omega arith) (omega arith) (omega arith)));
+      state = view_state most_faces _ _ _ _ (omega arith);
+    }
