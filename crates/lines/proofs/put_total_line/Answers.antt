@@ -1,7 +1,6 @@
 -- `put_total_line` meets its contract: where `fits` says that there is room for the line, it is stored, and else nothing is stored.
 use mathlib.Core.Path.{sym, ◌∙◌}
 use native.Mathlib.Omega.{arith}
-use borrow.Author.Rules.{rules}
 use borrow.Author.Tests.{leb-true}
 use Rattle.lines.specs.Places.Put.{widths}
 use Rattle.lines.specs.Laws.Lines.{length_total}

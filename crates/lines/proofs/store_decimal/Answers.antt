@@ -1,8 +1,7 @@
 -- `store_decimal` meets its contract. The loop's invariant: with the i digits that are left stored too, the buffer is as it is to be. The
 -- measure is how many are left.
 use native.Mathlib.Omega.{arith}
-use borrow.Author.Rules.{rules}
-use Rattle.lines.specs.Laws.Put.{Filling, filling_none, filling_more, filling_all}
+use Rattle.lines.specs.Laws.Put.{filling_none, filling_more, filling_all}
 use Rattle.lines.proofs.store_decimal.Goals as goal
 
 pub loop-i-init : goal.loop-i-init

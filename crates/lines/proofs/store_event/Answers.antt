@@ -1,6 +1,5 @@
 -- `store_event` meets its contract: its parts are stored one after the other.
 use native.Mathlib.Omega.{arith}
-use borrow.Author.Rules.{rules}
 use Rattle.lines.specs.Lines.{event_line}
 use Rattle.lines.specs.Laws.Put.{stored_on, past_spaced}
 use Rattle.lines.proofs.store_event.Goals as goal

@@ -1,5 +1,4 @@
 -- `store_mark` meets its contract: it is one store.
-use borrow.Author.Rules.{rules}
 use Rattle.lines.specs.Lines.{mark}
 use Rattle.lines.specs.Laws.Put.{stored_byte}
 use Rattle.lines.proofs.store_mark.Goals as goal

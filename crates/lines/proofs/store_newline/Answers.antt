@@ -1,5 +1,4 @@
 -- `store_newline` meets its contract: it is one store.
-use borrow.Author.Rules.{rules}
 use Rattle.lines.specs.Lines.{newline}
 use Rattle.lines.specs.Laws.Put.{stored_byte}
 use Rattle.lines.proofs.store_newline.Goals as goal

@@ -1,7 +1,6 @@
 -- `store_spaced` meets its contract: the space is stored, and then the digits.
 use mathlib.Core.Path.{ap, ◌∙◌}
 use native.Mathlib.Omega.{arith}
-use borrow.Author.Rules.{rules}
 use lib.ListN.{length, length-set}
 use lib.Seq.{length-sets}
 use Rattle.lines.specs.Laws.Put.{stored_spaced}

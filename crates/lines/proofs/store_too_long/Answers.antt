@@ -1,6 +1,5 @@
 -- `store_too_long` meets its contract: it is a run of stores.
 use native.Mathlib.Omega.{arith}
-use borrow.Author.Rules.{rules}
 use lib.ListN.{length-set}
 use Rattle.lines.specs.Lines.{too_long}
 use Rattle.lines.specs.Laws.Put.{stored_too_long}

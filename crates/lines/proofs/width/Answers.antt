@@ -2,7 +2,7 @@
 -- measure is what is left.
 use native.Mathlib.Omega.{arith}
 use borrow.Author.Rules.{rules}
-use Rattle.lines.specs.Laws.Decimal.{Counting, counting_first, counting_more, counting_few, counting_all}
+use Rattle.lines.specs.Laws.Decimal.{counting_first, counting_more, counting_few, counting_all}
 use Rattle.lines.proofs.width.Goals as goal
 
 pub loop-m-init : goal.loop-m-init

@@ -1,8 +1,6 @@
 -- `width` meets its contract. The loop's invariant: the digits counted and those of what is left are those of the number, and one. The
 -- measure is what is left.
-use native.Mathlib.Omega.{arith}
-use borrow.Author.Rules.{rules}
-use Rattle.lines.specs.Laws.Decimal.{Counting, counting_first, counting_more, counting_few, counting_all}
+use Rattle.lines.specs.Laws.Decimal.{Counting}
 use Rattle.lines.proofs.width.Given as goal
 
 abbrev pub invariant-loop-m : goal.invariant-loop-m

@@ -2,7 +2,6 @@
 use mathlib.Core.Path.{◌∙◌}
 use Rattle.sizes.specs.Sizes.{most_faces}
 use Rattle.pending_entry.specs.Laws.Change.{view_asking_faces}
-use borrow.Author.Rules.{rules}
 use Rattle.pending_entry.proofs.asking_faces.Goals as goal
 
 pub returns : goal.returns

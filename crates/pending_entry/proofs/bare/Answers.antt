@@ -1,7 +1,6 @@
 -- Empty sets have no records, whatever the memory holds.
 use Rattle.sizes.specs.Sizes.{most_faces}
 use Rattle.pending_entry.specs.Laws.Change.{view_bare}
-use borrow.Author.Rules.{rules}
 use Rattle.pending_entry.proofs.bare.Goals as goal
 
 pub returns : goal.returns

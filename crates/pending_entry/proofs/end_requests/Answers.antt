@@ -1,7 +1,6 @@
 -- The faces of the set are taken out of those with a request.
 use Rattle.sizes.specs.Sizes.{most_faces}
 use Rattle.pending_entry.specs.Laws.Change.{view_ending}
-use borrow.Author.Rules.{rules}
 use Rattle.pending_entry.proofs.end_requests.Goals as goal
 
 pub returns : goal.returns

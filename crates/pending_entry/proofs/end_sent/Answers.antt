@@ -1,7 +1,6 @@
 -- The face is taken out of the set; a number that is none changes nothing.
 use Rattle.sizes.specs.Sizes.{most_faces}
 use Rattle.pending_entry.specs.Laws.Change.{view_not_sent}
-use borrow.Author.Rules.{rules}
 use Rattle.pending_entry.proofs.end_sent.Goals as goal
 
 pub returns : goal.returns

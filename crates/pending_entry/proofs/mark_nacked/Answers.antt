@@ -5,7 +5,6 @@ use Rattle.sizes.specs.Sizes.{most_faces}
 use Rattle.pending_entry.specs.Laws.Change.{view_nacking, view_nacking_none}
 use Rattle.faces.specs.Laws.Set.{has_face_lem}
 use Rattle.laws.specs.Places.Rows.{at}
-use borrow.Author.Rules.{rules}
 use Rattle.pending_entry.proofs.mark_nacked.Goals as goal
 
 pub overflow_sub-r : goal.overflow_sub-r

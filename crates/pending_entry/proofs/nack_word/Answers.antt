@@ -1,7 +1,6 @@
 -- The reason is at most 150, so that it and 1 fit.
 use native.Mathlib.Omega.{arith}
 use Rattle.pending_entry.specs.Laws.Change.{reason_most}
-use borrow.Author.Rules.{rules}
 use Rattle.pending_entry.proofs.nack_word.Goals as goal
 
 pub overflow_add-result : goal.overflow_add-result

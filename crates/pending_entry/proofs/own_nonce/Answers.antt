@@ -4,7 +4,6 @@ use mathlib.Core.Path.{sym, ◌∙◌}
 use Rattle.sizes.specs.Sizes.{most_faces}
 use Rattle.pending_entry.specs.Laws.Change.{view_own_nonce}
 use Rattle.faces.specs.Laws.Set.{has_face_lem}
-use borrow.Author.Rules.{rules}
 use Rattle.pending_entry.proofs.own_nonce.Goals as goal
 
 pub overflow_sub-result : goal.overflow_sub-result

@@ -7,7 +7,6 @@ use Rattle.pending_entry.specs.Operations.{request_in}
 use Rattle.pending_entry.specs.Laws.Change.{view_request}
 use Rattle.faces.specs.Laws.Set.{has_face_lem}
 use Rattle.laws.specs.Laws.Pick.{pick_yes, pick_no}
-use borrow.Author.Rules.{rules}
 use Rattle.pending_entry.proofs.request_of.Goals as goal
 
 pub overflow_sub-result : goal.overflow_sub-result

@@ -5,7 +5,6 @@ use Rattle.sizes.specs.Sizes.{most_faces}
 use Rattle.pending_entry.specs.Laws.Change.{view_sending, view_sending_none}
 use Rattle.records.specs.Laws.Face.{face_yes}
 use Rattle.laws.specs.Places.Rows.{at}
-use borrow.Author.Rules.{rules}
 use Rattle.pending_entry.proofs.send.Goals as goal
 
 pub overflow_sub-r : goal.overflow_sub-r

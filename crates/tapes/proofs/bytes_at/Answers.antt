@@ -1,5 +1,4 @@
 -- The number there, or none that is to be there; and the event past it.
-use borrow.Author.Rules.{rules}
 use mathlib.Core.Path.{◌∙◌}
 use Rattle.tapes.specs.Places.Event.{bytes_at}
 use Rattle.tapes.specs.Laws.Event.{may_bad, may_is}

@@ -1,5 +1,4 @@
 -- The test on the bytes left is the definition's.
-use borrow.Author.Rules.{rules}
 use mathlib.Core.Path.{sym}
 use native.Mathlib.Omega.{arith}
 use Rattle.tapes.specs.Laws.Event.{end_bad, end_is}

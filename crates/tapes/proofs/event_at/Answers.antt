@@ -1,5 +1,4 @@
 -- The kind, and the event past it.
-use borrow.Author.Rules.{rules}
 use mathlib.Core.Path.{sym, ◌∙◌}
 use Rattle.tapes.specs.Places.Event.{taken_at}
 use Rattle.tapes.specs.Laws.Event.{numbered_bad, numbered_is}

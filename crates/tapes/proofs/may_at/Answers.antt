@@ -1,6 +1,5 @@
 -- The callee's number, or 0.
 use mathlib.Core.Path.{refl}
-use borrow.Author.Rules.{rules}
 use Rattle.laws.specs.Pick.{pick}
 use Rattle.tapes.specs.Places.Event.{may_at}
 use Rattle.tapes.proofs.may_at.Goals as goal

@@ -1,6 +1,6 @@
 -- The round trip: an event written as a tape has it is read back, whatever follows it.
 -- Assumes nothing.
-use Rattle.std.specs.Prelude.{ℕ, zero, suc, ◌+◌, ◌-◌, ◌^◌, ◌≤◌, ◌≡◌, refl, true, ◌&&◌, length}
+use Rattle.std.specs.Prelude.{ℕ, zero, suc, ◌+◌, ◌^◌, ◌≤◌, ◌≡◌, refl, true, ◌&&◌, length}
 use Rattle.std.proofs.Common.{◌∙◌, length-append, le-ltb, ne_eqb, ltb-true, arith}
 use mathlib.Core.List.{List, [], ◌∷◌, ◌++◌, append_assoc}
 use Rattle.std.proofs.Math.Option.{none}
