@@ -356,8 +356,8 @@ pub note_requests_same : (κs : Lfts 5) (a b : Dens κs note-requests-kinds.ps) 
     → note-requests-reads.Post κs a x s → note-requests-reads.Post κs b y t → (x ≡ y)
     × (s.1.1.1.1.1.1.0.now ≡ t.1.1.1.1.1.1.0.now)
 note_requests_same κs a b x y s t e h l m e1 e2 p q =
-    noted_alike most_rows l m (sym (said_alike [] (ap2 (λ (k : ℕ) (x : Fate). noted (fate_in x) 0 (has_face most_faces k)) e1 e2) h e)) (p 0)
-    (q 0)
+    noted_alike most_rows l m (sym (said_alike [] (ap2 (λ (k : ℕ) (x : Fate). noted (fate_in x) 0 (has_face most_faces k)) e1 e2) h e))
+    (p 0) (q 0)
 
 -- requests noted, with two fates
 pub note_by_face_same : (κs : Lfts 5) (a b : Dens κs note-by-face-kinds.ps) (x y : (res_t note-by-face-kinds.r κs).Denot)
@@ -376,8 +376,8 @@ pub note_by_face_same : (κs : Lfts 5) (a b : Dens κs note-by-face-kinds.ps) (x
     × (s.1.1.1.1.1.1.0.now ≡ t.1.1.1.1.1.1.0.now)
 note_by_face_same κs a b x y s t e h l m e1 e2 e3 e4 p q =
     noted_alike most_rows l m
-    (sym (said_alike [] (ap4 (λ (k g : ℕ) (x z : Fate). noted_by (fate_by most_faces g x z) 0 (has_face most_faces k)) e1 e2 e3 e4) h e)) (p 0)
-    (q 0)
+    (sym (said_alike [] (ap4 (λ (k g : ℕ) (x z : Fate). noted_by (fate_by most_faces g x z) 0 (has_face most_faces k)) e1 e2 e3 e4) h e))
+    (p 0) (q 0)
 
 -- a request noted
 pub note_face_same : (κs : Lfts 5) (a b : Dens κs note-face-kinds.ps) (x y : (res_t note-face-kinds.r κs).Denot)

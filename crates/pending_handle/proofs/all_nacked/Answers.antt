@@ -1,5 +1,4 @@
 -- What the row says; without an entry what is said of none.
-use borrow.Author.Rules.{rules}
 use native.Mathlib.Omega.{arith}
 use Rattle.sizes.specs.Sizes.{most_faces}
 use Rattle.pending_records.specs.Operations.{nacks_in}

@@ -1,5 +1,4 @@
 -- The lines of the entry that the row means join; without an entry none does.
-use borrow.Author.Rules.{rules}
 use native.Mathlib.Omega.{arith}
 use Rattle.sizes.specs.Sizes.{most_faces}
 use Rattle.records.specs.Slots.{given}

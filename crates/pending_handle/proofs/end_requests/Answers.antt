@@ -1,5 +1,4 @@
 -- The row changes as the entry does; without an entry nothing does.
-use borrow.Author.Rules.{rules}
 use native.Mathlib.Omega.{arith}
 use Rattle.sizes.specs.Sizes.{most_faces}
 use Rattle.pending_table.specs.Places.View.{view_on_head, changed_none}

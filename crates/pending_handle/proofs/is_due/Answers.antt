@@ -1,5 +1,4 @@
 -- Without requests, or by the faces whose requests are over.
-use borrow.Author.Rules.{rules}
 use mathlib.Core.Path.{sym, ◌∙◌}
 use Rattle.sizes.specs.Sizes.{most_faces}
 use Rattle.pending_handle.specs.Laws.Due.{due_idle, due_over}

@@ -1,5 +1,4 @@
 -- The rows of the entry that the row means; without an entry none.
-use borrow.Author.Rules.{rules}
 use native.Mathlib.Omega.{arith}
 use Rattle.sizes.specs.Sizes.{most_faces}
 use Rattle.records.specs.Slots.{given}

@@ -1,5 +1,4 @@
 -- The loop's invariant: of the rows that are not left those stay that ageing concerns.
-use borrow.Author.Rules.{rules}
 use native.Mathlib.Omega.{arith}
 use Prim.Native.Nat.{ℕ}
 use mathlib.Core.Bool.{Bool}
@@ -10,7 +9,7 @@ use lib.Count.{trailing_le}
 use Rattle.laws.specs.Laws.Digits.{lowest}
 use Rattle.sizes.specs.Sizes.{most_faces, most_entries}
 use Rattle.pending_order.specs.Laws.Walk.{digit_less}
-use Rattle.pending_order.specs.Laws.Choose.{Choosing, choosing_start, choosing_turn, choosing_end}
+use Rattle.pending_order.specs.Laws.Choose.{choosing_start, choosing_turn, choosing_end}
 use Rattle.pending_table.specs.Places.View.{row_at, marks_where}
 use Rattle.pending_handle.specs.Operations.{is_due}
 use Rattle.pending_handle.proofs.overdue_entries.Goals as goal

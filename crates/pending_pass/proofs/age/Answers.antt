@@ -1,14 +1,9 @@
 -- The loop's invariant is `Passing`, with the handle at the first mark: one law for the start, one for a turn, one for the end.
-use borrow.Author.Rules.{rules}
 use borrow.Author.Tests.{ltb-true, ltb-false}
-use mathlib.Core.Path.{◌≡◌, sym, ◌∙◌}
+use mathlib.Core.Path.{sym, ◌∙◌}
 use Rattle.sizes.specs.Sizes.{most_faces}
-use Rattle.names.specs.Fingerprint.{fingerprint}
-use Rattle.dead.specs.Places.View as dead
-use Rattle.pending_table.specs.Places.View.{view, place, marks, view_most, view_wide, marks_length}
-use Rattle.pending_pass.specs.Places.Pass.{Passing}
-use Rattle.pending_pass.specs.Places.Works.{ageing_work}
-use Rattle.pending_pass.specs.Laws.Pass.{first_mark, mark_count, pass_start, pass_turn, pass_less, pass_end}
+use Rattle.pending_table.specs.Places.View.{view_most, view_wide, marks_length}
+use Rattle.pending_pass.specs.Laws.Pass.{pass_start, pass_turn, pass_less, pass_end}
 use Rattle.pending_pass.specs.Laws.Works.{pass_ages}
 use Rattle.pending_pass.specs.Laws.Asked.{rows_few}
 use Rattle.pending_pass.proofs.age.Goals as goal
@@ -37,6 +32,7 @@ loop-left-preserved c =
 pub returns : goal.returns
 returns c =
     let l = c.loop-left in
-    let p = pass_end _ _ _ _ _ _ _ _ _ _ _ l.invariant.1 _ l.invariant.0 (ltb-false _ _ (sym c.is_there.ensures ∙ c.loop-left-test.false)) in
+    let out = ltb-false _ _ (sym c.is_there.ensures ∙ c.loop-left-test.false) in
+    let p = pass_end _ _ _ _ _ _ _ _ _ _ _ l.invariant.1 _ l.invariant.0 out in
     pass_ages _ _ _ _ _ 0 _ _ _ _ _ c.overdue_entries-left.ensures p
     (rows_few _ _ (λ i e p. (view_wide most_faces _ _ _ _ _ i e p).0) (view_most most_faces _ _ _ _ _))

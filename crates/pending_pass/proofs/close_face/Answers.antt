@@ -1,14 +1,9 @@
 -- The loop's invariant is `Passing`, with the handle at the first mark: one law for the start, one for a turn, one for the end.
-use borrow.Author.Rules.{rules}
 use borrow.Author.Tests.{ltb-true, ltb-false}
-use mathlib.Core.Path.{◌≡◌, sym, ◌∙◌}
+use mathlib.Core.Path.{sym, ◌∙◌}
 use Rattle.sizes.specs.Sizes.{most_faces}
-use Rattle.names.specs.Fingerprint.{fingerprint}
-use Rattle.dead.specs.Places.View as dead
-use Rattle.pending_table.specs.Places.View.{view, place, marks, marks_length}
-use Rattle.pending_pass.specs.Places.Pass.{Passing}
-use Rattle.pending_pass.specs.Places.Works.{closing_work}
-use Rattle.pending_pass.specs.Laws.Pass.{first_mark, mark_count, pass_start, pass_turn, pass_less, pass_end}
+use Rattle.pending_table.specs.Places.View.{marks_length}
+use Rattle.pending_pass.specs.Laws.Pass.{pass_start, pass_turn, pass_less, pass_end}
 use Rattle.pending_pass.specs.Laws.Works.{pass_closes}
 use Rattle.pending_pass.proofs.close_face.Goals as goal
 
@@ -36,5 +31,6 @@ loop-left-preserved c =
 pub returns : goal.returns
 returns c =
     let l = c.loop-left in
-    let p = pass_end _ _ _ _ _ _ _ _ _ _ _ l.invariant.1 _ l.invariant.0 (ltb-false _ _ (sym c.is_there.ensures ∙ c.loop-left-test.false)) in
+    let out = ltb-false _ _ (sym c.is_there.ensures ∙ c.loop-left-test.false) in
+    let p = pass_end _ _ _ _ _ _ _ _ _ _ _ l.invariant.1 _ l.invariant.0 out in
     pass_closes _ _ _ _ _ _ _ _ _ _ _ _ c.all-left.ensures p

@@ -1,5 +1,4 @@
 -- Each return is one law over what the calls before it ensure: the entry stays, or it is buried and taken out.
-use borrow.Author.Rules.{rules}
 use Rattle.names.specs.Fingerprint.{fingerprint}
 use Rattle.pending_pass.specs.Laws.Turn.{leaves_not, leaves_out}
 use Rattle.pending_pass.proofs.leave_if_idle.Goals as goal

@@ -1,5 +1,4 @@
 -- One element is written, with the lower of two.
-use borrow.Author.Rules.{rules}
 use Rattle.pending_pass.proofs.lower_word.Goals as goal
 
 pub returns : goal.returns

@@ -1,5 +1,4 @@
 -- A walk over the set's faces, the lowest first: one law for the start, one for a turn, one for the end.
-use borrow.Author.Rules.{rules}
 use native.Mathlib.Omega.{arith}
 use mathlib.Core.Path.{ap, ◌∙◌}
 use Prim.Native.Nat.{ℕ}
@@ -7,7 +6,6 @@ use Rattle.sizes.specs.Sizes.{most_faces}
 use Rattle.faces.specs.Set.{has_face}
 use Rattle.faces.specs.Laws.Set.{has_removed_same, has_removed_other}
 use Rattle.faces.specs.Laws.Walk.{walks, walk_less}
-use Rattle.pending_pass.specs.Places.Lowering.{LowersTo}
 use Rattle.pending_pass.specs.Laws.Lowest.{lowers_start, lowers_turn, lowers_end}
 use Rattle.pending_pass.proofs.lower_words.Goals as goal
 

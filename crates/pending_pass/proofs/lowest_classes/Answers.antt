@@ -1,11 +1,8 @@
 -- The loop's invariant is `LowestTo`, with the handle at the first mark: one law for the start, one for a turn, one for the end.
-use borrow.Author.Rules.{rules}
 use borrow.Author.Tests.{ltb-true, ltb-false}
-use mathlib.Core.Path.{◌≡◌, refl, sym, ◌∙◌}
+use mathlib.Core.Path.{refl, sym, ◌∙◌}
 use Rattle.sizes.specs.Sizes.{most_faces}
-use Rattle.pending_table.specs.Places.View.{view, place, marks, marks_length}
-use Rattle.pending_pass.specs.Places.Lowering.{LowestTo}
-use Rattle.pending_pass.specs.Laws.Pass.{first_mark, mark_count}
+use Rattle.pending_table.specs.Places.View.{marks_length}
 use Rattle.pending_pass.specs.Laws.Faces.{has_none}
 use Rattle.pending_pass.specs.Laws.Lowest.{lowest_start, lowest_next, lowest_less, lowest_end, zeros_at}
 use Rattle.pending_pass.proofs.lowest_classes.Goals as goal

@@ -1,15 +1,9 @@
 -- The loop's invariant is `Passing`, with the handle at the first mark: one law for the start, one for a turn, one for the end.
-use borrow.Author.Rules.{rules}
 use borrow.Author.Tests.{ltb-true, ltb-false}
-use mathlib.Core.Path.{◌≡◌, sym, ◌∙◌}
+use mathlib.Core.Path.{sym, ◌∙◌}
 use Rattle.sizes.specs.Sizes.{most_faces}
-use Rattle.names.specs.Fingerprint.{fingerprint}
-use Rattle.dead.specs.Places.View as dead
-use Rattle.pending_table.specs.Places.View.{view, place, marks, marks_length}
-use Rattle.pending_pass.specs.Satisfies.{data_fate}
-use Rattle.pending_pass.specs.Places.Pass.{Passing}
-use Rattle.pending_pass.specs.Places.Works.{satisfying_work}
-use Rattle.pending_pass.specs.Laws.Pass.{first_mark, mark_count, pass_start, pass_turn, pass_less, pass_end}
+use Rattle.pending_table.specs.Places.View.{marks_length}
+use Rattle.pending_pass.specs.Laws.Pass.{pass_start, pass_turn, pass_less, pass_end}
 use Rattle.pending_pass.proofs.meet_chosen.Goals as goal
 
 pub loop-left-init : goal.loop-left-init

@@ -1,5 +1,4 @@
 -- The return is one law over what the calls before it ensure.
-use borrow.Author.Rules.{rules}
 use Rattle.sizes.specs.Sizes.{most_faces}
 use Rattle.names.specs.Fingerprint.{fingerprint}
 use Rattle.happenings.specs.Noted.{fate_in}

@@ -1,5 +1,4 @@
 -- The return joins the pass, the lowest classes and the faces of the copies.
-use borrow.Author.Rules.{rules}
 use Rattle.sizes.specs.Sizes.{most_faces}
 use Rattle.pending_pass.specs.Laws.Works.{pass_satisfies}
 use Rattle.pending_pass.specs.Laws.Lowest.{lowest_words, lowest_owed}

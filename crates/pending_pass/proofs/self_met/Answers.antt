@@ -1,5 +1,4 @@
 -- The set of one face, or of none.
-use borrow.Author.Rules.{rules}
 use Rattle.sizes.specs.Sizes.{most_faces}
 use Rattle.pending_pass.specs.Laws.Faces.{met_one, met_none}
 use Rattle.pending_pass.proofs.self_met.Goals as goal

@@ -191,7 +191,8 @@ module _ (w : Work) (ms : List Bool) (es : List Entry) (ls : List Line) (rs : Li
           (rw (x, y) (passed_kept w ms' es' e p here s))
 
       -- the entry leaves
-      turn_left : w.stays e ≡ false → es'' ≡ without (first_mark ms') es' → ms'' ≡ left ms' → Passing w ms es ls rs made ms'' es'' ls'' rs'' made''
+      turn_left : w.stays e ≡ false → es'' ≡ without (first_mark ms') es' → ms'' ≡ left ms'
+          → Passing w ms es ls rs made ms'' es'' ls'' rs'' made''
       turn_left s x y =
           turn_same
           (rw (x, y) (without_long (first_mark ms') (kept ms') es' (length_on_at (first_mark ms') (λ _. false) ms' ∙ h.long)))

@@ -158,7 +158,8 @@ module _ {C : Type 0} (n : ℕ) (print : List ℕ → ℕ → ℕ) (now k : ℕ)
         let i = is_idle (w.change e) in
         let es₂ = on_at k w.change es in
         let a : pick i (without k es₁) es₁ ≡ pick i (without k es) es₂ = rw (x, without_on k w.change es) in
-        let d : joined_all most_dead ls₁ (leaving print now (w.change e)) ≡ joined_all most_dead ls (own ++ leaving print now (w.change e)) =
+        let d : joined_all most_dead ls₁ (leaving print now (w.change e))
+        ≡ joined_all most_dead ls (own ++ leaving print now (w.change e)) =
         rw y (sym (joined_append most_dead ls own (leaving print now (w.change e)))) in
         record {
           entries = g.entries ∙ a ∙ pick_not i (without k es) es₂ ∙ ap (λ (z : Bool). pick z es₂ (without k es)) (sym s);

@@ -143,7 +143,8 @@ module _ (now : ℕ) where
 module _ (print : List ℕ → ℕ → ℕ) (now : ℕ) (es : List Entry) (ls : List Line) (rs : List (List ℕ)) (made : ℕ) (ms : List Bool)
     (es' : List Entry) (ls' : List Line) (rs' : List (List ℕ)) (made' : ℕ) where
   -- the pass of ageing over the entries that it concerns, where there is a row for each request that expires
-  pub pass_ages : ms ≡ map (is_due now) es → Passes (ageing_work print now) ms es ls rs 0 es' ls' rs' made' → length (aged_rows now es) ≤ most_rows
+  pub pass_ages : ms ≡ map (is_due now) es → Passes (ageing_work print now) ms es ls rs 0 es' ls' rs' made'
+      → length (aged_rows now es) ≤ most_rows
       → Ages print now es ls rs es' ls' rs' made'
   unfolding ageing_work aged_pending aged_lines_by aged_rows
   pass_ages which q few =
@@ -178,7 +179,8 @@ module _ (print : List ℕ → ℕ → ℕ) (now : ℕ) (es : List Entry) (ls : 
       let m = marked_only (matches name) es in
       let n : each (notes w) (marked (map (matches name) es) es) ≡ map row_of
       (each (ends_by (data_fate f ad_hoc) now) (only (matches name) es)) =
-      each_notes w (marked (map (matches name) es) es) ∙ ap (λ (x : List Entry). map row_of (each (ends_by (data_fate f ad_hoc) now) x)) m in
+      each_notes w (marked (map (matches name) es) es)
+      ∙ ap (λ (x : List Entry). map row_of (each (ends_by (data_fate f ad_hoc) now) x)) m in
       let chosen : marked ms es ≡ only (matches name) es = ap (λ (x : List Bool). marked x es) which ∙ m in
       record {
         entries = p.entries ∙ passed_leaving w (matches name) (λ e. refl) es;

@@ -29,7 +29,8 @@ pub record LowersTo (n set class had : ℕ) (ws : List ℕ) (left face had' : �
   pub words : (f : ℕ) → is_face n f ≡ true → get_or ws' (f - 1) 0
       ≡ pick (has_face n left f) (get_or ws (f - 1) 0)
       (pick (has_face n set f) (lower_word (has_face n had f) (get_or ws (f - 1) 0) class) (get_or ws (f - 1) 0))
-  pub have : (f : ℕ) → is_face n f ≡ true → has_face n had' f ≡ pick (has_face n left f) (has_face n had f) (has_face n set f || has_face n had f)
+  pub have : (f : ℕ) → is_face n f ≡ true
+      → has_face n had' f ≡ pick (has_face n left f) (has_face n had f) (has_face n set f || has_face n had f)
 
 -- the words and the set tell the lowest classes of some entries
 pub record Lowest (n : ℕ) (es : List Entry) (had : ℕ) (ws : List ℕ) : Type 0 where

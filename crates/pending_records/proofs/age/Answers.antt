@@ -1,5 +1,4 @@
 -- The set without the faces whose requests are over has the requests that live.
-use borrow.Author.Rules.{rules}
 use mathlib.Core.Path.{sym, ◌∙◌}
 use Rattle.sizes.specs.Sizes.{most_faces}
 use Rattle.pending_records.specs.Laws.Over.{view_overdue, view_aged}

@@ -1,13 +1,10 @@
 -- The loop's invariant: the reason that goes on is the smaller of the one so far and of those that are left, where all of these are Nacked.
-use borrow.Author.Rules.{rules}
 use native.Mathlib.Omega.{arith}
-use mathlib.Core.Path.{◌≡◌, refl, sym, ◌∙◌}
-use lib.ListN.{get_or}
+use mathlib.Core.Path.{refl, sym, ◌∙◌}
 use Rattle.sizes.specs.Sizes.{most_faces}
 use Rattle.pending_records.specs.Operations.{nacks_in}
-use Rattle.pending_records.specs.Places.Walk.{sent_in, nacks_from}
 use Rattle.pending_records.specs.Laws.Nacks.{nacks_turn, nacks_open, nacks_end, view_nacks}
-use Rattle.faces.specs.Laws.Walk.{Walks, walks, walk_less}
+use Rattle.faces.specs.Laws.Walk.{walks, walk_less}
 use Rattle.pending_records.proofs.all_nacked.Goals as goal
 
 pub loop-f-init : goal.loop-f-init

@@ -1,16 +1,11 @@
 -- The loop's invariant: the lines of all out-records join the list at the start where those of the out-records that are left join the list
 -- as it is.
-use borrow.Author.Rules.{rules}
 use native.Mathlib.Omega.{arith}
-use mathlib.Core.Path.{◌≡◌, refl, sym, ◌∙◌}
-use lib.ListN.{get_or}
+use mathlib.Core.Path.{refl, sym, ◌∙◌}
 use Rattle.sizes.specs.Sizes.{most_faces, most_dead}
 use Rattle.names.specs.Fingerprint.{fingerprint}
-use Rattle.records.specs.Line.{joined_all}
-use Rattle.dead.specs.Places.View as dead
-use Rattle.pending_records.specs.Places.Walk.{sent_in, lines_of}
 use Rattle.pending_records.specs.Laws.Line.{lines_turn, lines_end, view_lines}
-use Rattle.faces.specs.Laws.Walk.{Walks, walks, walk_less}
+use Rattle.faces.specs.Laws.Walk.{walks, walk_less}
 use Rattle.pending_records.proofs.bury.Goals as goal
 
 pub loop-f-init : goal.loop-f-init

@@ -6,7 +6,6 @@ use Rattle.names.specs.Fingerprint.{fingerprint}
 use Rattle.records.specs.Line.{joined_all}
 use Rattle.faces.specs.Laws.Set.{has_face_lem}
 use Rattle.pending_records.specs.Laws.Line.{view_own_line, view_no_line}
-use borrow.Author.Rules.{rules}
 use Rattle.pending_records.proofs.bury_face.Goals as goal
 
 pub overflow_sub-face : goal.overflow_sub-face

@@ -1,7 +1,6 @@
 -- By the test.
 use mathlib.Core.Path.{sym, ◌∙◌}
 use Rattle.laws.specs.Laws.Pick.{pick_yes, pick_no}
-use borrow.Author.Rules.{rules}
 use Rattle.pending_records.proofs.choose.Goals as goal
 
 pub returns-then-has : goal.returns-then-has

@@ -1,16 +1,12 @@
 -- The loop's invariant: the nonce stands in some record where it stands in one of those that are left.
-use borrow.Author.Rules.{rules}
 use native.Mathlib.Omega.{arith}
-use mathlib.Core.Path.{◌≡◌, refl, sym, ◌∙◌}
+use mathlib.Core.Path.{refl, sym, ◌∙◌}
 use borrow.Author.Tests.{eq-eqb, ne_eqb}
 use lib.Dec.{eqb}
 use Rattle.laws.specs.Lists.{any_of}
-use Rattle.sizes.specs.Sizes.{most_faces}
-use Rattle.faces.specs.Slots.{slots_of}
-use Rattle.records.specs.Slots.{held}
 use Rattle.pending_records.specs.Places.Walk.{word, column_at}
 use Rattle.pending_records.specs.Laws.Nonce.{any_turn}
-use Rattle.faces.specs.Laws.Walk.{Walks, walks, walk_less, walk_end}
+use Rattle.faces.specs.Laws.Walk.{walks, walk_less, walk_end}
 use Rattle.pending_records.proofs.column_has.Goals as goal
 
 pub loop-f-init : goal.loop-f-init

@@ -1,13 +1,10 @@
 -- The loop's invariant: the earliest out-record is the earlier of the best so far and of those that are left.
-use borrow.Author.Rules.{rules}
 use native.Mathlib.Omega.{arith}
-use mathlib.Core.Path.{◌≡◌, ap, sym, ◌∙◌}
-use Prim.Native.Nat.{◌≤◌}
+use mathlib.Core.Path.{ap, sym, ◌∙◌}
 use Rattle.sizes.specs.Sizes.{most_faces}
-use Rattle.records.specs.Slots.{given, least_by}
-use Rattle.pending_records.specs.Places.Walk.{sent_in, less_of, time_of, best_of}
+use Rattle.records.specs.Slots.{given}
 use Rattle.pending_records.specs.Laws.Earliest.{least_start, least_turn, least_end, view_earliest}
-use Rattle.faces.specs.Laws.Walk.{Walks, walks, walk_less}
+use Rattle.faces.specs.Laws.Walk.{walks, walk_less}
 use Rattle.pending_records.proofs.earliest.Goals as goal
 
 pub loop-f-init : goal.loop-f-init

@@ -1,19 +1,17 @@
 -- The loop's invariant: the earliest out-record is the earlier of the best so far and of those that are left.
-use borrow.Author.Rules.{rules}
-use native.Mathlib.Omega.{arith}
-use mathlib.Core.Path.{◌≡◌, ap, sym, ◌∙◌}
+use mathlib.Core.Path.{◌≡◌}
 use Prim.Native.Nat.{◌≤◌}
 use Rattle.sizes.specs.Sizes.{most_faces}
-use Rattle.records.specs.Slots.{given, least_by}
+use Rattle.records.specs.Slots.{least_by}
 use Rattle.pending_records.specs.Places.Walk.{sent_in, less_of, time_of, best_of}
-use Rattle.pending_records.specs.Laws.Earliest.{least_start, least_turn, least_end, view_earliest}
-use Rattle.faces.specs.Laws.Walk.{Walks, walks, walk_less}
+use Rattle.faces.specs.Laws.Walk.{Walks}
 use Rattle.pending_records.proofs.earliest.Given as goal
 
 abbrev pub invariant-loop-f : goal.invariant-loop-f
 invariant-loop-f l =
     Walks most_faces l.left l.f × (l.best ≤ most_faces)
-    × (least_by time_of (sent_in most_faces l.initial.left l.recs) ≡ less_of time_of (best_of l.recs l.best) (least_by time_of (sent_in most_faces l.left l.recs)))
+    × (least_by time_of (sent_in most_faces l.initial.left l.recs)
+    ≡ less_of time_of (best_of l.recs l.best) (least_by time_of (sent_in most_faces l.left l.recs)))
 
 abbrev pub decreases-loop-f : goal.decreases-loop-f
 decreases-loop-f l = l.left

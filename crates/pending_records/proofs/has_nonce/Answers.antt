@@ -1,5 +1,4 @@
 -- The in-records are column 0, the out-records column 2.
-use borrow.Author.Rules.{rules}
 use mathlib.Core.Path.{sym, ◌∙◌}
 use Rattle.sizes.specs.Sizes.{most_faces}
 use Rattle.pending_records.specs.Laws.Nonce.{view_nonce}

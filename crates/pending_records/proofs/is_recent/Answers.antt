@@ -4,7 +4,6 @@ use Rattle.sizes.specs.Sizes.{resend_time}
 use native.Mathlib.Omega.{arith}
 use mathlib.Core.Path.{sym}
 use borrow.Author.Tests.{lt-ltb}
-use borrow.Author.Rules.{rules}
 use Rattle.pending_records.proofs.is_recent.Goals as goal
 
 pub returns-then-time-sent : goal.returns-then-time-sent

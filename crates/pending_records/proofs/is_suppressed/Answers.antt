@@ -4,7 +4,6 @@ use Rattle.sizes.specs.Sizes.{most_faces}
 use Rattle.records.specs.Slots.{holds}
 use Rattle.pending_records.specs.Places.Walk.{newest_in}
 use Rattle.pending_records.specs.Laws.Newest.{view_suppressed}
-use borrow.Author.Rules.{rules}
 use Rattle.pending_records.proofs.is_suppressed.Goals as goal
 
 pub returns-in-None : goal.returns-in-None

@@ -1,10 +1,8 @@
 -- The loop's invariant: the newest out-record is the newer of the time so far and of those that are left.
-use borrow.Author.Rules.{rules}
 use native.Mathlib.Omega.{arith}
-use mathlib.Core.Path.{◌≡◌, sym, ◌∙◌}
+use mathlib.Core.Path.{sym, ◌∙◌}
 use Rattle.sizes.specs.Sizes.{most_faces}
-use Rattle.records.specs.Entry.{newest_of}
-use Rattle.pending_records.specs.Places.Walk.{sent_in, newest_in, newer}
+use Rattle.pending_records.specs.Places.Walk.{newest_in}
 use Rattle.pending_records.specs.Laws.Newest.{newest_start, newest_turn, newest_end, newest_none}
 use Rattle.faces.specs.Laws.Walk.{Walks, walks, walk_less}
 use Rattle.pending_records.proofs.newest_time.Goals as goal

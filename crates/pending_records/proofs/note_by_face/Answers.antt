@@ -1,7 +1,6 @@
 -- The faces of both sets have their requests noted, each with the number of its fate.
 use Rattle.sizes.specs.Sizes.{most_faces}
 use Rattle.pending_records.specs.Laws.Note.{view_noted_by}
-use borrow.Author.Rules.{rules}
 use Rattle.pending_records.proofs.note_by_face.Goals as goal
 
 pub returns : goal.returns

@@ -6,7 +6,6 @@ use Rattle.faces.specs.Laws.Set.{has_face_lem}
 use Rattle.happenings.specs.Noted.{most_rows}
 use Rattle.happenings.specs.Laws.Noted.{notes_none}
 use Rattle.pending_records.specs.Laws.Note.{view_noted_one, view_noted_none}
-use borrow.Author.Rules.{rules}
 use Rattle.pending_records.proofs.note_face.Goals as goal
 
 pub overflow_sub-r : goal.overflow_sub-r

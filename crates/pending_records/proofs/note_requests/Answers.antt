@@ -2,7 +2,6 @@
 use Rattle.sizes.specs.Sizes.{most_faces}
 use Rattle.happenings.specs.Noted.{fate_in}
 use Rattle.pending_records.specs.Laws.Note.{view_noted_all}
-use borrow.Author.Rules.{rules}
 use Rattle.pending_records.proofs.note_requests.Goals as goal
 
 pub returns : goal.returns

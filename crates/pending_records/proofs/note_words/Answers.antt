@@ -1,12 +1,9 @@
 -- The loop's invariant is `Noting`: the rows of the faces that are left are still to be noted.
 use native.Mathlib.Omega.{arith}
 use Rattle.sizes.specs.Sizes.{most_faces}
-use Rattle.laws.specs.Pick.{pick}
-use Rattle.faces.specs.Set.{has_face}
 use Rattle.faces.specs.Laws.Walk.{walks, walk_less}
 use Rattle.happenings.specs.Noted.{most_rows}
-use Rattle.pending_records.specs.Laws.Note.{Noting, noting_start, noting_more, noting_end}
-use borrow.Author.Rules.{rules}
+use Rattle.pending_records.specs.Laws.Note.{noting_start, noting_more, noting_end}
 use Rattle.pending_records.proofs.note_words.Goals as goal
 
 pub loop-f-init : goal.loop-f-init

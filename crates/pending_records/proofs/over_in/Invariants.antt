@@ -1,9 +1,7 @@
 -- The loop's invariant: of the requests of the faces passed those that are over are known.
-use borrow.Author.Rules.{rules}
-use native.Mathlib.Omega.{arith}
 use Rattle.sizes.specs.Sizes.{most_faces}
-use Rattle.pending_records.specs.Laws.Over.{Overs, overs_start, overs_turn, overs_end}
-use Rattle.faces.specs.Laws.Walk.{Walks, walks, walk_less}
+use Rattle.pending_records.specs.Laws.Over.{Overs}
+use Rattle.faces.specs.Laws.Walk.{Walks}
 use Rattle.pending_records.proofs.over_in.Given as goal
 
 abbrev pub invariant-loop-f : goal.invariant-loop-f

@@ -2,7 +2,6 @@
 use mathlib.Core.Path.{sym, ◌∙◌}
 use Rattle.sizes.specs.Sizes.{most_faces}
 use Rattle.pending_records.specs.Laws.Over.{view_overdue}
-use borrow.Author.Rules.{rules}
 use Rattle.pending_records.proofs.overdue.Goals as goal
 
 pub returns : goal.returns

@@ -1,5 +1,4 @@
 -- Each return is what the test says: a request at its very expiry is over.
-use borrow.Author.Rules.{rules}
 use native.Mathlib.Omega.{arith}
 use borrow.Author.Tests.{lt-ltb, le-ltb}
 use Rattle.laws.specs.Pick.{pick}

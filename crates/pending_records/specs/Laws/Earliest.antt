@@ -52,7 +52,8 @@ least_start recs o = refl
 module _ {n s f : ℕ} (a : Walks n s f) (recs : List (List ℕ)) where
   -- a turn of a running least
   pub least_turn : f ≤ n → {t : ℕ} → t ≡ minus_face n s f → (x : ℕ) {y : ℕ} → y ≡ earlier_face recs x f
-      → less_of time_of (best_of recs x) (least_by time_of (sent_in n s recs)) ≡ less_of time_of (best_of recs y) (least_by time_of (sent_in n t recs))
+      → less_of time_of (best_of recs x) (least_by time_of (sent_in n s recs))
+      ≡ less_of time_of (best_of recs y) (least_by time_of (sent_in n t recs))
   least_turn l e x q = rw (walk_more a l e (sent_at recs), q) (least_more recs x f _ a.first)
 
   -- at the end the least so far is the least of all
@@ -72,7 +73,8 @@ given_face (some h) = refl
 -- the face of a set with the earliest out-record of an entry
 pub view_earliest : (n : ℕ) (name head : List ℕ) (recs : List (List ℕ)) (set x : ℕ)
     → x ≡ faces_where n (λ f. has_face n (get_or head 5 0) f && has_face n set f)
-    → given 0 (λ f. f) (earliest_of (has_face n set) (view_for n name head recs)) ≡ given 0 (λ h. h.face) (least_by time_of (sent_in n x recs))
+    → given 0 (λ f. f) (earliest_of (has_face n set) (view_for n name head recs))
+    ≡ given 0 (λ h. h.face) (least_by time_of (sent_in n x recs))
 unfolding earliest_of least_face
 view_earliest n name head recs set x e =
     given_face _

@@ -35,7 +35,8 @@ held_both {A} p q r g f i (suc m) e h =
 pub held_common : {A : Type 0} (n s t x : ℕ) (g : ℕ → A) → x ≡ faces_where n (λ f. has_face n s f && has_face n t f)
     → held (slots_of n x g) ≡ only (λ h. has_face n t h.face) (held (slots_of n s g))
 unfolding held slots_of
-held_common n s t x g e = held_both (λ i. member i s) (has_face n t) (λ i. member i x) g 1 0 n (omega arith) (λ i _ l. there i (omega arith))
+held_common n s t x g e =
+    held_both (λ i. member i s) (has_face n t) (λ i. member i x) g 1 0 n (omega arith) (λ i _ l. there i (omega arith))
   where
     there : (i : ℕ) → i < n → member i x ≡ (member i s && has_face n t (i + 1))
     there i h =

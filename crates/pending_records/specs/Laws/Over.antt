@@ -12,7 +12,8 @@ use Rattle.records.specs.Face.{is_face}
 use Rattle.records.specs.Laws.Face.{face_yes}
 use Rattle.records.specs.Entry.{Request, with_requests, is_live, if_live, aged_entry}
 use Rattle.faces.specs.Set.{has_face, with_face, minus_face, faces_where}
-use Rattle.faces.specs.Laws.Set.{has_after, has_added_same, has_added_other, has_removed_same, has_removed_other, lowest_before, where_has, where_is, where_ext}
+use Rattle.faces.specs.Laws.Set.{has_after, has_added_same, has_added_other, has_removed_same, has_removed_other, lowest_before}
+use Rattle.faces.specs.Laws.Set.{where_has, where_is, where_ext}
 use Rattle.faces.specs.Slots.{slots_of}
 use Rattle.faces.specs.Laws.Walk.{Walks, walk_has}
 use Rattle.faces.specs.Laws.Slot.{holds_there, slots_only}

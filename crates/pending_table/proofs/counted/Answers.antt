@@ -2,7 +2,6 @@
 use borrow.Author.Rules.{rules}
 use native.Mathlib.Omega.{arith}
 use borrow.Author.Tests.{lt-ltb, le-ltb, le-leb, lt-leb, eq-eqb, ne_eqb}
-use Prim.Native.Nat.{◌-◌}
 use Rattle.laws.specs.Pick.{pick}
 use Rattle.records.specs.Class.{class_of}
 use Rattle.pending_table.specs.Places.Room.{counting, all_of}

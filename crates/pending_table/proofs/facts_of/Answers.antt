@@ -1,5 +1,4 @@
 -- What a row's head says, and what is said of nothing.
-use borrow.Author.Rules.{rules}
 use native.Mathlib.Omega.{arith}
 use mathlib.Core.Path.{sym}
 use Rattle.sizes.specs.Sizes.{most_faces}

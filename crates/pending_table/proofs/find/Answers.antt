@@ -1,5 +1,4 @@
 -- The loop's invariant: of the rows that are not left, the best is the first opened that is known.
-use borrow.Author.Rules.{rules}
 use native.Mathlib.Omega.{arith}
 use Prim.Native.Nat.{ℕ}
 use mathlib.Core.Bool.{Bool}
@@ -8,7 +7,7 @@ use lib.Count.{trailing_le}
 use Rattle.laws.specs.Laws.Digits.{lowest}
 use Rattle.sizes.specs.Sizes.{most_faces, most_entries}
 use Rattle.records.specs.Entry.{is_known}
-use Rattle.pending_order.specs.Laws.Walk.{Passed, passed_start, passed_yes, passed_no, passed_end, digit_less}
+use Rattle.pending_order.specs.Laws.Walk.{passed_start, passed_yes, passed_no, passed_end, digit_less}
 use Rattle.pending_table.specs.Places.View.{row_at, view_finds}
 use Rattle.pending_table.proofs.find.Goals as goal
 

@@ -1,5 +1,4 @@
 -- The uses with the new entry counted are those of the entries with it.
-use borrow.Author.Rules.{rules}
 use native.Mathlib.Omega.{arith}
 use Rattle.sizes.specs.Sizes.{most_faces}
 use Rattle.pending_table.specs.Laws.Room.{uses_most, counting_all, room_more}

@@ -1,5 +1,4 @@
 -- Each return is what the tests say of the row, the flags first.
-use borrow.Author.Rules.{rules}
 use mathlib.Core.Path.{sym}
 use Rattle.pending_table.specs.Laws.Row.{row_known}
 use Rattle.pending_table.proofs.is_known.Goals as goal

@@ -1,5 +1,4 @@
 -- Each return is what the tests say of the row.
-use borrow.Author.Rules.{rules}
 use mathlib.Core.Path.{sym}
 use borrow.Author.Tests.{eq-eqb, ne_eqb}
 use Rattle.pending_table.specs.Laws.Row.{row_matches}

@@ -1,5 +1,4 @@
 -- A handle has an entry where its row is used.
-use borrow.Author.Rules.{rules}
 use native.Mathlib.Omega.{arith}
 use mathlib.Core.Path.{◌∙◌}
 use Rattle.sizes.specs.Sizes.{most_faces}

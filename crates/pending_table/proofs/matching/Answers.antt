@@ -1,5 +1,4 @@
 -- The loop's invariant: of the rows that are not left those stay that match.
-use borrow.Author.Rules.{rules}
 use native.Mathlib.Omega.{arith}
 use Prim.Native.Nat.{ℕ}
 use mathlib.Core.Bool.{Bool}
@@ -11,7 +10,7 @@ use Rattle.laws.specs.Laws.Digits.{lowest}
 use Rattle.sizes.specs.Sizes.{most_faces, most_entries}
 use Rattle.records.specs.Entry.{matches}
 use Rattle.pending_order.specs.Laws.Walk.{digit_less}
-use Rattle.pending_order.specs.Laws.Choose.{Choosing, choosing_start, choosing_turn, choosing_end}
+use Rattle.pending_order.specs.Laws.Choose.{choosing_start, choosing_turn, choosing_end}
 use Rattle.pending_table.specs.Places.View.{row_at, marks_where}
 use Rattle.pending_table.proofs.matching.Goals as goal
 

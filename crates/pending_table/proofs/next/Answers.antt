@@ -1,5 +1,4 @@
 -- The first of the rows that are used and chosen.
-use borrow.Author.Rules.{rules}
 use Rattle.pending_table.specs.Places.View.{marks_next}
 use Rattle.pending_table.proofs.next.Goals as goal
 

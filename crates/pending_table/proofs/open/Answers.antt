@@ -1,5 +1,4 @@
 -- One law for each outcome: a name that the row has no room for, an entry more, and a full table.
-use borrow.Author.Rules.{rules}
 use native.Mathlib.Omega.{arith}
 use mathlib.Core.Path.{◌∙◌}
 use Rattle.sizes.specs.Sizes.{most_faces}

@@ -1,5 +1,4 @@
 -- The choice without a row.
-use borrow.Author.Rules.{rules}
 use Rattle.pending_table.specs.Places.View.{marks_rest}
 use Rattle.pending_table.proofs.rest.Goals as goal
 

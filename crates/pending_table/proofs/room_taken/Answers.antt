@@ -1,7 +1,6 @@
 -- Each part is bounded by the sum of the uses.
 use borrow.Author.Rules.{rules}
 use native.Mathlib.Omega.{arith}
-use Prim.Native.Nat.{◌-◌}
 use Rattle.records.specs.Class.{reserve}
 use Rattle.pending_table.specs.Places.Room.{room_of, all_of}
 use Rattle.pending_table.proofs.room_taken.Goals as goal

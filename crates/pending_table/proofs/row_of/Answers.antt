@@ -1,5 +1,4 @@
 -- A used row, else the number of rows.
-use borrow.Author.Rules.{rules}
 use mathlib.Core.Path.{sym, ◌∙◌}
 use Rattle.laws.specs.Laws.Pick.{pick_yes, pick_no}
 use Rattle.pending_table.specs.Places.View.{row_held}

@@ -3,7 +3,6 @@
 use mathlib.Core.Bool.{Bool, true, false, not, beq}
 use lib.Dec.{eqb}
 use mathlib.Core.Path.{◌≡◌, refl}
-use Prim.Native.Nat.{◌-◌}
 use Rattle.pending_table.proofs.same_flag.Goals as goal
 
 yes : (b : Bool) → b ≡ beq true b

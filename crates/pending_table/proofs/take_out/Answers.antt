@@ -1,5 +1,4 @@
 -- The row is no longer used.
-use borrow.Author.Rules.{rules}
 use Rattle.sizes.specs.Sizes.{most_faces}
 use Rattle.pending_table.specs.Places.View.{view_taken}
 use Rattle.pending_table.proofs.take_out.Goals as goal

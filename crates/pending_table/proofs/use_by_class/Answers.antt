@@ -1,11 +1,10 @@
 -- The loop's invariant: what was counted, and the entries of the rows that are left, are all.
-use borrow.Author.Rules.{rules}
 use native.Mathlib.Omega.{arith}
 use lib.Count.{trailing_le}
 use Rattle.laws.specs.Laws.Digits.{lowest}
 use Rattle.sizes.specs.Sizes.{most_faces, most_entries}
 use Rattle.pending_order.specs.Laws.Walk.{digit_less}
-use Rattle.pending_table.specs.Laws.Room.{Counting, counting_start, counting_room, counting_turn, counting_end}
+use Rattle.pending_table.specs.Laws.Room.{counting_start, counting_room, counting_turn, counting_end}
 use Rattle.pending_table.proofs.use_by_class.Goals as goal
 
 pub overflow_cast-row : goal.overflow_cast-row

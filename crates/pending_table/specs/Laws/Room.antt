@@ -120,7 +120,8 @@ none_both u = rw (zero-add u.alarm, zero-add u.monitoring, zero-add u.bulk, zero
 pub record Counting (n : ℕ) (names heads : List (List ℕ)) (recs : List (List (List ℕ))) (numbers : List ℕ) (s : Pending) (u : Uses)
     (left row : ℕ) : Type 0 where
   pub at : Lowest most_entries left row
-  pub same : both u (uses_of (view_for n names heads recs numbers (record { used = left }))) ≡ uses_of (view_for n names heads recs numbers s)
+  pub same : both u (uses_of (view_for n names heads recs numbers (record { used = left })))
+      ≡ uses_of (view_for n names heads recs numbers s)
 
 module _ (n : ℕ) (names heads : List (List ℕ)) (recs : List (List (List ℕ))) (numbers : List ℕ) (s : Pending) where
   -- at the start all are left

@@ -169,8 +169,8 @@ module _ (n : ℕ) (names heads : List (List ℕ)) (recs : List (List (List ℕ)
       rw z
 
   -- so no other handle has its place
-  pub place_one : (g h : Handle) → place numbers s g ≡ place numbers s h → place numbers s g < length (view_for n names heads recs numbers s)
-      → g ≡ h
+  pub place_one : (g h : Handle) → place numbers s g ≡ place numbers s h
+      → place numbers s g < length (view_for n names heads recs numbers s) → g ≡ h
   place_one g h e l = place_own g l ∙ ap (handle_at numbers s) e ∙ sym (place_own h (omega arith))
 
   -- whether a handle has an entry is whether its row is used
@@ -291,7 +291,8 @@ module _ (n : ℕ) (names heads : List (List ℕ)) (recs : List (List (List ℕ)
     view_on_head hd g a b l q = rw (set-get_or recs i []) at (view_on hd (get_or recs i []) g a b l q)
 
     -- only a row's records stored
-    pub view_on_records : (r : List (List ℕ)) (g : Entry → Entry) → length heads ≡ most_entries → length recs ≡ most_entries → i < most_entries
+    pub view_on_records : (r : List (List ℕ)) (g : Entry → Entry) → length heads ≡ most_entries → length recs ≡ most_entries
+        → i < most_entries
         → ((nm : List ℕ) → entry.view_for n nm (get_or heads i []) r ≡ g (entry.view_for n nm (get_or heads i []) (get_or recs i [])))
         → view_for n names heads (set recs i r) numbers s ≡ on_at (place numbers s h) g (view_for n names heads recs numbers s)
     view_on_records r g a b l q = rw (set-get_or heads i []) at (view_on (get_or heads i []) r g a b l q)
@@ -348,7 +349,8 @@ module _ (n : ℕ) (names heads : List (List ℕ)) (recs : List (List (List ℕ)
 module _ (n : ℕ) (names heads : List (List ℕ)) (recs : List (List (List ℕ))) (numbers : List ℕ) (s : Pending) (e : Entry) where
   -- a name and a head stored in a free row, which is opened as the last: an entry more
   opens_at : (row more : ℕ) (nm h others : List ℕ) → order.Opens most_entries numbers others s.used row more → row < most_entries
-      → length e.name ≤ most_name → length names ≡ most_entries → length heads ≡ most_entries → entry.view_for n nm h (get_or recs row []) ≡ e
+      → length e.name ≤ most_name → length names ≡ most_entries → length heads ≡ most_entries
+      → entry.view_for n nm h (get_or recs row []) ≡ e
       → Opens (record { fits = true; pending = record { used = more }; handle = record { row = row } }) e
       (view_for n names heads recs numbers s)
       (view_for n (set names row nm) (set heads row h) recs others (record { used = more }))
@@ -387,7 +389,8 @@ module _ (n : ℕ) (names heads : List (List ℕ)) (recs : List (List (List ℕ)
   -- the same, where the free row was asked for before
   pub opens_more : (row row' more : ℕ) (nm h others : List ℕ) → row ≡ free_of most_entries s.used
       → order.Opens most_entries numbers others s.used row' more → row < most_entries
-      → length e.name ≤ most_name → length names ≡ most_entries → length heads ≡ most_entries → entry.view_for n nm h (get_or recs row []) ≡ e
+      → length e.name ≤ most_name → length names ≡ most_entries → length heads ≡ most_entries
+      → entry.view_for n nm h (get_or recs row []) ≡ e
       → Opens (record { fits = true; pending = record { used = more }; handle = record { row = row } }) e
       (view_for n names heads recs numbers s)
       (view_for n (set names row nm) (set heads row h) recs others (record { used = more }))

@@ -1,5 +1,4 @@
 -- A number that is no face or a place past the last changes nothing, as the law has it; else one row is changed.
-use borrow.Author.Rules.{rules}
 use native.Mathlib.Omega.{arith}
 use mathlib.Core.Path.{sym}
 use mathlib.Core.Option.{some}

@@ -1,5 +1,4 @@
 -- The hops that are in the set are the faces common to both; past the last route there are none.
-use borrow.Author.Rules.{rules}
 use native.Mathlib.Omega.{arith}
 use Rattle.sizes.specs.Sizes.{most_faces}
 use Rattle.records.specs.Slots.{given}

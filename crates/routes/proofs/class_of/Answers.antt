@@ -1,5 +1,4 @@
 -- The class word is that of the head; past the last route it is 0.
-use borrow.Author.Rules.{rules}
 use native.Mathlib.Omega.{arith}
 use Rattle.sizes.specs.Sizes.{most_faces}
 use Rattle.records.specs.Slots.{given}

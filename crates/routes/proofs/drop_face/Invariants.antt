@@ -1,17 +1,12 @@
 -- The loop's invariant: with the hops of a face dropped from place i on they are dropped from all routes.
-use borrow.Author.Rules.{rules}
-use native.Mathlib.Omega.{arith}
-use mathlib.Core.Path.{◌≡◌, sym, ◌∙◌}
+use mathlib.Core.Path.{◌≡◌}
 use Prim.Native.Nat.{◌-◌}
 use mathlib.Core.List.{map}
 use mathlib.Core.Option.{none}
-use Rattle.sizes.specs.Sizes.{most_faces}
-use Rattle.laws.specs.Laws.Loop.{from_zero, turns_turn, turns_end}
 use Rattle.laws.specs.Places.Loop.{turns}
 use Rattle.laws.specs.Lists.{on_at}
-use Rattle.laws.specs.Laws.Tab.{turns_map}
 use Rattle.records.specs.Route.{with_hop}
-use Rattle.routes.specs.Places.View.{view, place_is, view_length}
+use Rattle.routes.specs.Places.View.{view}
 use Rattle.routes.proofs.drop_face.Given as goal
 
 abbrev pub invariant-loop-i : goal.invariant-loop-i

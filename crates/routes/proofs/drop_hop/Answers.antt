@@ -1,5 +1,4 @@
 -- The set of one head loses the face; a number that is no face, or a place past the last, changes nothing.
-use borrow.Author.Rules.{rules}
 use native.Mathlib.Omega.{arith}
 use mathlib.Core.Path.{sym}
 use mathlib.Core.List.{[]}

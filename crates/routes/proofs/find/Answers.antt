@@ -1,12 +1,7 @@
 -- The loop's invariant: a prefix is found among all routes where it is found from place i on.
-use borrow.Author.Rules.{rules}
 use native.Mathlib.Omega.{arith}
-use mathlib.Core.Path.{◌≡◌, sym, ◌∙◌}
-use Prim.Native.Nat.{ℕ, ◌-◌}
-use mathlib.Core.Bool.{Bool}
-use mathlib.Core.List.{List}
+use mathlib.Core.Path.{sym, ◌∙◌}
 use Rattle.sizes.specs.Sizes.{most_faces}
-use Rattle.laws.specs.Places.Loop.{first}
 use Rattle.laws.specs.Laws.Loop.{first_hit, first_miss, first_end, from_zero}
 use Rattle.names.specs.Name.{same_bytes}
 use Rattle.records.specs.Route.{route_of}

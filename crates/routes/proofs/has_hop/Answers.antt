@@ -1,5 +1,4 @@
 -- A face is a hop where it is in the head's set; past the last route there is none.
-use borrow.Author.Rules.{rules}
 use native.Mathlib.Omega.{arith}
 use mathlib.Core.Path.{◌∙◌}
 use Rattle.sizes.specs.Sizes.{most_faces}

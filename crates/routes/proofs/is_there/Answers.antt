@@ -1,5 +1,4 @@
 -- A handle stands for a route where its place is before the last.
-use borrow.Author.Rules.{rules}
 use native.Mathlib.Omega.{arith}
 use Rattle.sizes.specs.Sizes.{most_faces}
 use Rattle.records.specs.Slots.{is_some}

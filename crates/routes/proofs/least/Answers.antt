@@ -1,12 +1,11 @@
 -- The loop's invariant: the least of the best so far and of the faces left is the least of the set.
-use borrow.Author.Rules.{rules}
 use native.Mathlib.Omega.{arith}
 use lib.ListN.{get_or}
 use Rattle.records.specs.Slots.{given}
 use Rattle.sizes.specs.Sizes.{most_faces}
 use Rattle.faces.specs.Set.{lowest_face}
 use Rattle.faces.specs.Laws.Slot.{lowest_less}
-use Rattle.routes.specs.Laws.Hop.{Least, least_none, least_first, least_lower, least_stays, least_end}
+use Rattle.routes.specs.Laws.Hop.{least_none, least_first, least_lower, least_stays, least_end}
 use Rattle.routes.proofs.least.Goals as goal
 
 pub returns-then-best-gt-FACES : goal.returns-then-best-gt-FACES

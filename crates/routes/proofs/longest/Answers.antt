@@ -1,12 +1,11 @@
 -- The loop's invariant: best and most are what a search of the routes from place i on finds.
-use borrow.Author.Rules.{rules}
 use native.Mathlib.Omega.{arith}
 use mathlib.Core.Path.{sym, ap, ◌∙◌}
-use Prim.Native.Nat.{◌-◌, ◌≤◌}
+use Prim.Native.Nat.{◌-◌}
 use Rattle.sizes.specs.Sizes.{most_faces}
-use Rattle.routes.specs.Places.View.{view, route_at, route_row, place_is, view_cut, view_drop, view_end}
+use Rattle.routes.specs.Places.View.{route_at, route_row, place_is, view_cut, view_drop, view_end}
 use Rattle.routes.specs.Operations.{longest_at}
-use Rattle.routes.specs.Laws.Longest.{Best, best_none, best_all, best_here, best_short, best_apart}
+use Rattle.routes.specs.Laws.Longest.{best_none, best_all, best_here, best_short, best_apart}
 use Rattle.routes.proofs.longest.Goals as goal
 
 pub loop-i-init : goal.loop-i-init

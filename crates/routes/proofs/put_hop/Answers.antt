@@ -1,5 +1,4 @@
 -- The face joins the set, and its cost is stored at its digit; the costs of the other faces stay.
-use borrow.Author.Rules.{rules}
 use native.Mathlib.Omega.{arith}
 use Prim.Native.Nat.{◌-◌}
 use lib.Seq.{get_or-set_same, get_or-set_other}

@@ -1,11 +1,7 @@
 -- The loop's invariant: the rows moved down so far, and those still to be moved, are all the rows to be moved.
-use borrow.Author.Rules.{rules}
 use native.Mathlib.Omega.{arith}
-use mathlib.Core.Path.{◌≡◌, refl, sym, ◌∙◌}
-use Prim.Native.Nat.{◌+◌, ◌-◌, ◌≤◌}
-use mathlib.Core.List.{[]}
+use mathlib.Core.Path.{refl, sym, ◌∙◌}
 use Rattle.sizes.specs.Sizes.{most_faces}
-use Rattle.laws.specs.Places.Loop.{turns}
 use Rattle.laws.specs.Laws.Loop.{turns_turn, turns_end}
 use Rattle.laws.specs.Places.Rows.{down}
 use Rattle.laws.specs.Laws.Tab.{without_out}
@@ -29,8 +25,13 @@ pub loop-k-preserved : goal.loop-k-preserved
 unfolding down
 loop-k-preserved c =
     let l = c.loop-k in
-    let t = c.loop-k-test.true in
-    (omega arith, omega arith, l.invariant.2 ∙ turns_turn _ _ _ _ t, l.invariant.3 ∙ turns_turn _ _ _ _ t, l.invariant.4 ∙ turns_turn _ _ _ _ t)
+    let t = c.loop-k-test.true in (
+      omega arith,
+      omega arith,
+      l.invariant.2 ∙ turns_turn _ _ _ _ t,
+      l.invariant.3 ∙ turns_turn _ _ _ _ t,
+      l.invariant.4 ∙ turns_turn _ _ _ _ t,
+    )
 
 pub returns : goal.returns
 returns c =

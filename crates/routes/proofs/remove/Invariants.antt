@@ -1,15 +1,9 @@
 -- The loop's invariant: the rows moved down so far, and those still to be moved, are all the rows to be moved.
-use borrow.Author.Rules.{rules}
-use native.Mathlib.Omega.{arith}
-use mathlib.Core.Path.{◌≡◌, refl, sym, ◌∙◌}
+use mathlib.Core.Path.{◌≡◌}
 use Prim.Native.Nat.{◌+◌, ◌-◌, ◌≤◌}
 use mathlib.Core.List.{[]}
-use Rattle.sizes.specs.Sizes.{most_faces}
 use Rattle.laws.specs.Places.Loop.{turns}
-use Rattle.laws.specs.Laws.Loop.{turns_turn, turns_end}
 use Rattle.laws.specs.Places.Rows.{down}
-use Rattle.laws.specs.Laws.Tab.{without_out}
-use Rattle.routes.specs.Places.View.{place_is, view_length, view_cut, view_state, view_without}
 use Rattle.routes.proofs.remove.Given as goal
 
 abbrev pub invariant-loop-k : goal.invariant-loop-k

@@ -1,5 +1,4 @@
 -- One law for each outcome: a known prefix, one that is too long, no room, a new route at the end.
-use borrow.Author.Rules.{rules}
 use native.Mathlib.Omega.{arith}
 use mathlib.Core.Path.{refl, sym, ◌∙◌}
 use Rattle.sizes.specs.Sizes.{most_faces}

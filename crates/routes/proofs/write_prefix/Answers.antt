@@ -1,5 +1,4 @@
 -- A prefix that fits into its row is written whole.
-use borrow.Author.Rules.{rules}
 use native.Mathlib.Omega.{arith}
 use Rattle.wire.specs.Laws.Write.{put_back}
 use Rattle.routes.proofs.write_prefix.Goals as goal

@@ -119,7 +119,8 @@ module _ (p : List ℕ) (rs : List Route) (h : length p ≤ most_name) where
   -- the routes that it leaves, in the same order
   pub set_left : (n : ℕ) (c : Class)
       → with_route n p c rs
-      ≡ pick (is_route p rs) (on_at (route_of p rs) (with_class c) rs) (pick (leb most_routes (length rs)) rs (rs ++ (new_route n p c ∷ [])))
+      ≡ pick (is_route p rs) (on_at (route_of p rs) (with_class c) rs)
+      (pick (leb most_routes (length rs)) rs (rs ++ (new_route n p c ∷ [])))
   unfolding with_route
   set_left n c = rw room_left (ap (pick (is_route p rs) (on_at (route_of p rs) (with_class c) rs)) (swap (leb most_routes (length rs))))
     where

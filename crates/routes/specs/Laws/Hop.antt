@@ -61,7 +61,8 @@ pub record Least (n : ℕ) (g : ℕ → ℕ) (all left best cost : ℕ) : Type 0
 
 module _ (n : ℕ) (w : n ≤ 64) (g : ℕ → ℕ) (left f : ℕ) (low : f ≡ lowest_face n left) where
   -- where a face is left, the least is that of it and the others
-  least_more : f ≤ n → least_of n g left ≡ less_by (λ h. h.what) (record { face = f; what = g (f - 1) }) (least_of n g (minus_face n left f))
+  least_more : f ≤ n
+      → least_of n g left ≡ less_by (λ h. h.what) (record { face = f; what = g (f - 1) }) (least_of n g (minus_face n left f))
   unfolding least_of least_by
   least_more h = rw low (rw (held_more n left g w (omega arith)))
 

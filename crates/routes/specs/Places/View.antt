@@ -1,5 +1,5 @@
--- The routes as the rules have them, in the order in which they were set. No other file can open `view_for`, `state_of` and `place`, so their
--- laws stand here.
+-- The routes as the rules have them, in the order in which they were set. No other file can open `view_for`, `state_of` and `place`, so
+-- their laws stand here.
 -- Assumes nothing.
 use Prim.Native.Nat.{ℕ, ◌+◌, ◌-◌, ◌≤◌, ◌<◌, min}
 use Rattle.std.specs.Prelude.{◌≡◌, Bool, ◌≢◌, set, take, drop, ltb}
