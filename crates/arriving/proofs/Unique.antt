@@ -3,7 +3,7 @@
 -- Assumes nothing.
 use mathlib.Core.Path.{◌≡◌, refl}
 use contract.Lifetimes.{Lfts}
-use denote.Ref.{Bor}
+use Rattle.std.specs.Borrow.{Bor, MutBor}
 use denote.Triple.Both.{Both}
 use denote.Triple.Clauses.{AtExit}
 use borrow.Fn.Kinds.{Dens, ended_of, res_t}
@@ -19,18 +19,22 @@ use Rattle.arriving.specs.Coming.{comes_in}
 use Rattle.arriving.proofs.arrive.Kinds as arrive-kinds
 use Rattle.arriving.proofs.arrive.Reads as arrive-reads
 
--- what was lent, from its two ends
-abbrev lent : {A : Type 0} → Bor A → Bor A → Lent A
-lent e x = record { entry = e; exit = x }
+-- what was lent behind `&mut`, from its two ends
+abbrev lent : {A : Type 0} → MutBor A → MutBor A → Lent A
+lent e x = record { entry = e.now; exit = x.now }
+
+-- what was lent behind `&`, from its two ends
+abbrev shown : {A : Type 0} → Bor A → Bor A → Lent A
+shown e x = record { entry = e.now; exit = x.now }
 
 module _ (κs : Lfts 14) where
   -- the memory of what came in at entry and at exit
   abbrev pub arrive_memory : Dens κs arrive-kinds.ps → Came → AtExit (ended_of 14 arrive-kinds.ps arrive-kinds.r) κs → Both Memory Memory
   arrive_memory a r s =
       memory a.1.1.1.1.1.1.1.1.1.1.1.1.1.0 r.small
-      (lent a.0 s.0)
-      (lent a.1.0 s.1.0)
-      (lent a.1.1.0 s.1.1.0)
+      (shown a.0 s.0)
+      (shown a.1.0 s.1.0)
+      (shown a.1.1.0 s.1.1.0)
       (lent a.1.1.1.0 s.1.1.1.0)
       (lent a.1.1.1.1.0 s.1.1.1.1.0)
       (lent a.1.1.1.1.1.0 s.1.1.1.1.1.0)

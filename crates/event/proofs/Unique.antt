@@ -3,7 +3,7 @@
 -- Assumes nothing.
 use mathlib.Core.Path.{◌≡◌, refl, sym, ◌∙◌}
 use contract.Lifetimes.{Lfts}
-use denote.Ref.{Bor}
+use Rattle.std.specs.Borrow.{Bor, MutBor}
 use denote.Triple.Both.{Both}
 use denote.Triple.Clauses.{AtExit}
 use borrow.Fn.Kinds.{Dens, ended_of, res_t}
@@ -39,9 +39,13 @@ pub is_not_open_one : (κs : Lfts 0) (a : Dens κs open-kinds.ps) (x y : (res_t 
     (s t : AtExit (ended_of 0 open-kinds.ps open-kinds.r) κs) → open-reads.Post κs a x s → open-reads.Post κs a y t → x ≡ y
 is_not_open_one κs a x y s t p q = p ∙ sym q
 
--- what was lent, from its two ends
-abbrev lent : {A : Type 0} → Bor A → Bor A → Lent A
-lent e x = record { entry = e; exit = x }
+-- what was lent behind `&mut`, from its two ends
+abbrev lent : {A : Type 0} → MutBor A → MutBor A → Lent A
+lent e x = record { entry = e.now; exit = x.now }
+
+-- what was lent behind `&`, from its two ends
+abbrev shown : {A : Type 0} → Bor A → Bor A → Lent A
+shown e x = record { entry = e.now; exit = x.now }
 
 module _ (κs : Lfts 13) where
   -- the memory of the beginning of an event at entry and at exit
@@ -49,23 +53,23 @@ module _ (κs : Lfts 13) where
       → AtExit (ended_of 13 begins-kinds.ps begins-kinds.r) κs → Both Memory Memory
   begins_memory a r s =
       memory a.1.1.1.1.1.1.1.1.1.1.1.1.1.0 r.small
-      (lent a.0 s.0)
-      (lent a.1.0 s.1.0)
-      (lent a.1.1.0 s.1.1.0)
-      (lent a.1.1.1.0 s.1.1.1.0)
+      (shown a.0 s.0)
+      (shown a.1.0 s.1.0)
+      (shown a.1.1.0 s.1.1.0)
+      (shown a.1.1.1.0 s.1.1.1.0)
       (lent a.1.1.1.1.0 s.1.1.1.1.0)
-      (lent a.1.1.1.1.1.0 s.1.1.1.1.1.0)
-      (lent a.1.1.1.1.1.1.0 s.1.1.1.1.1.1.0)
-      (lent a.1.1.1.1.1.1.1.0 s.1.1.1.1.1.1.1.0)
-      (lent a.1.1.1.1.1.1.1.1.0 s.1.1.1.1.1.1.1.1.0)
+      (shown a.1.1.1.1.1.0 s.1.1.1.1.1.0)
+      (shown a.1.1.1.1.1.1.0 s.1.1.1.1.1.1.0)
+      (shown a.1.1.1.1.1.1.1.0 s.1.1.1.1.1.1.1.0)
+      (shown a.1.1.1.1.1.1.1.1.0 s.1.1.1.1.1.1.1.1.0)
       (lent a.1.1.1.1.1.1.1.1.1.0 s.1.1.1.1.1.1.1.1.1.0)
 
   -- its output at entry and at exit
   abbrev begins_output : Dens κs begins-kinds.ps → AtExit (ended_of 13 begins-kinds.ps begins-kinds.r) κs → Both Output Output
   begins_output a s =
       output
-      (lent a.1.1.1.1.1.1.1.1.1.1.0 s.1.1.1.1.1.1.1.1.1.1.0)
-      (lent a.1.1.1.1.1.1.1.1.1.1.1.0 s.1.1.1.1.1.1.1.1.1.1.1.0)
+      (shown a.1.1.1.1.1.1.1.1.1.1.0 s.1.1.1.1.1.1.1.1.1.1.0)
+      (shown a.1.1.1.1.1.1.1.1.1.1.1.0 s.1.1.1.1.1.1.1.1.1.1.1.0)
       (lent a.1.1.1.1.1.1.1.1.1.1.1.1.0 s.1.1.1.1.1.1.1.1.1.1.1.1.0)
 
   -- the beginning of an event from two memories that mean the same node, with the same time, refusal and output
@@ -96,23 +100,23 @@ module _ (κs : Lfts 13) where
       → AtExit (ended_of 13 clock-kinds.ps clock-kinds.r) κs → Both Memory Memory
   clock_memory a r s =
       memory a.1.1.1.1.1.1.1.1.1.1.1.1.1.0 r.small
-      (lent a.0 s.0)
-      (lent a.1.0 s.1.0)
-      (lent a.1.1.0 s.1.1.0)
-      (lent a.1.1.1.0 s.1.1.1.0)
+      (shown a.0 s.0)
+      (shown a.1.0 s.1.0)
+      (shown a.1.1.0 s.1.1.0)
+      (shown a.1.1.1.0 s.1.1.1.0)
       (lent a.1.1.1.1.0 s.1.1.1.1.0)
-      (lent a.1.1.1.1.1.0 s.1.1.1.1.1.0)
-      (lent a.1.1.1.1.1.1.0 s.1.1.1.1.1.1.0)
-      (lent a.1.1.1.1.1.1.1.0 s.1.1.1.1.1.1.1.0)
-      (lent a.1.1.1.1.1.1.1.1.0 s.1.1.1.1.1.1.1.1.0)
+      (shown a.1.1.1.1.1.0 s.1.1.1.1.1.0)
+      (shown a.1.1.1.1.1.1.0 s.1.1.1.1.1.1.0)
+      (shown a.1.1.1.1.1.1.1.0 s.1.1.1.1.1.1.1.0)
+      (shown a.1.1.1.1.1.1.1.1.0 s.1.1.1.1.1.1.1.1.0)
       (lent a.1.1.1.1.1.1.1.1.1.0 s.1.1.1.1.1.1.1.1.1.0)
 
   -- its output at entry and at exit
   abbrev pub clock_output : Dens κs clock-kinds.ps → AtExit (ended_of 13 clock-kinds.ps clock-kinds.r) κs → Both Output Output
   clock_output a s =
       output
-      (lent a.1.1.1.1.1.1.1.1.1.1.0 s.1.1.1.1.1.1.1.1.1.1.0)
-      (lent a.1.1.1.1.1.1.1.1.1.1.1.0 s.1.1.1.1.1.1.1.1.1.1.1.0)
+      (shown a.1.1.1.1.1.1.1.1.1.1.0 s.1.1.1.1.1.1.1.1.1.1.0)
+      (shown a.1.1.1.1.1.1.1.1.1.1.1.0 s.1.1.1.1.1.1.1.1.1.1.1.0)
       (lent a.1.1.1.1.1.1.1.1.1.1.1.1.0 s.1.1.1.1.1.1.1.1.1.1.1.1.0)
 
   -- a reading of the clock from two memories that mean the same node, with the same time and output

@@ -3,7 +3,7 @@
 -- Assumes nothing.
 use mathlib.Core.Path.{◌≡◌, refl}
 use contract.Lifetimes.{Lfts}
-use denote.Ref.{Bor}
+use Rattle.std.specs.Borrow.{Bor, MutBor}
 use denote.Triple.Both.{Both}
 use denote.Triple.Clauses.{AtExit}
 use borrow.Fn.Kinds.{Dens, ended_of, res_t}
@@ -17,9 +17,13 @@ use Rattle.on_face.proofs.open_face.Reads as open-face-reads
 use Rattle.on_face.proofs.close_face.Kinds as close-face-kinds
 use Rattle.on_face.proofs.close_face.Reads as close-face-reads
 
--- what was lent, from its two ends
-abbrev lent : {A : Type 0} → Bor A → Bor A → Lent A
-lent e x = record { entry = e; exit = x }
+-- what was lent behind `&mut`, from its two ends
+abbrev lent : {A : Type 0} → MutBor A → MutBor A → Lent A
+lent e x = record { entry = e.now; exit = x.now }
+
+-- what was lent behind `&`, from its two ends
+abbrev shown : {A : Type 0} → Bor A → Bor A → Lent A
+shown e x = record { entry = e.now; exit = x.now }
 
 module _ (κs : Lfts 13) where
   -- the memory of opening a face at entry and at exit
@@ -27,15 +31,15 @@ module _ (κs : Lfts 13) where
       → AtExit (ended_of 13 open-face-kinds.ps open-face-kinds.r) κs → Both Memory Memory
   open_face_memory a r s =
       memory a.1.1.1.1.1.1.1.1.1.1.1.1.1.0 r.small
-      (lent a.0 s.0)
-      (lent a.1.0 s.1.0)
-      (lent a.1.1.0 s.1.1.0)
-      (lent a.1.1.1.0 s.1.1.1.0)
+      (shown a.0 s.0)
+      (shown a.1.0 s.1.0)
+      (shown a.1.1.0 s.1.1.0)
+      (shown a.1.1.1.0 s.1.1.1.0)
       (lent a.1.1.1.1.0 s.1.1.1.1.0)
-      (lent a.1.1.1.1.1.0 s.1.1.1.1.1.0)
-      (lent a.1.1.1.1.1.1.0 s.1.1.1.1.1.1.0)
-      (lent a.1.1.1.1.1.1.1.0 s.1.1.1.1.1.1.1.0)
-      (lent a.1.1.1.1.1.1.1.1.0 s.1.1.1.1.1.1.1.1.0)
+      (shown a.1.1.1.1.1.0 s.1.1.1.1.1.0)
+      (shown a.1.1.1.1.1.1.0 s.1.1.1.1.1.1.0)
+      (shown a.1.1.1.1.1.1.1.0 s.1.1.1.1.1.1.1.0)
+      (shown a.1.1.1.1.1.1.1.1.0 s.1.1.1.1.1.1.1.1.0)
       (lent a.1.1.1.1.1.1.1.1.1.0 s.1.1.1.1.1.1.1.1.1.0)
 
   -- its output at entry and at exit
@@ -43,8 +47,8 @@ module _ (κs : Lfts 13) where
       → AtExit (ended_of 13 open-face-kinds.ps open-face-kinds.r) κs → Both Output Output
   open_face_output a s =
       output
-      (lent a.1.1.1.1.1.1.1.1.1.1.0 s.1.1.1.1.1.1.1.1.1.1.0)
-      (lent a.1.1.1.1.1.1.1.1.1.1.1.0 s.1.1.1.1.1.1.1.1.1.1.1.0)
+      (shown a.1.1.1.1.1.1.1.1.1.1.0 s.1.1.1.1.1.1.1.1.1.1.0)
+      (shown a.1.1.1.1.1.1.1.1.1.1.1.0 s.1.1.1.1.1.1.1.1.1.1.1.0)
       (lent a.1.1.1.1.1.1.1.1.1.1.1.1.0 s.1.1.1.1.1.1.1.1.1.1.1.1.0)
 
   -- its command
@@ -81,15 +85,15 @@ module _ (κs : Lfts 13) where
       → AtExit (ended_of 13 close-face-kinds.ps close-face-kinds.r) κs → Both Memory Memory
   close_face_memory a r s =
       memory a.1.1.1.1.1.1.1.1.1.1.1.1.1.0 r.small
-      (lent a.0 s.0)
+      (shown a.0 s.0)
       (lent a.1.0 s.1.0)
-      (lent a.1.1.0 s.1.1.0)
-      (lent a.1.1.1.0 s.1.1.1.0)
+      (shown a.1.1.0 s.1.1.0)
+      (shown a.1.1.1.0 s.1.1.1.0)
       (lent a.1.1.1.1.0 s.1.1.1.1.0)
-      (lent a.1.1.1.1.1.0 s.1.1.1.1.1.0)
-      (lent a.1.1.1.1.1.1.0 s.1.1.1.1.1.1.0)
-      (lent a.1.1.1.1.1.1.1.0 s.1.1.1.1.1.1.1.0)
-      (lent a.1.1.1.1.1.1.1.1.0 s.1.1.1.1.1.1.1.1.0)
+      (shown a.1.1.1.1.1.0 s.1.1.1.1.1.0)
+      (shown a.1.1.1.1.1.1.0 s.1.1.1.1.1.1.0)
+      (shown a.1.1.1.1.1.1.1.0 s.1.1.1.1.1.1.1.0)
+      (shown a.1.1.1.1.1.1.1.1.0 s.1.1.1.1.1.1.1.1.0)
       (lent a.1.1.1.1.1.1.1.1.1.0 s.1.1.1.1.1.1.1.1.1.0)
 
   -- its output at entry and at exit
@@ -97,8 +101,8 @@ module _ (κs : Lfts 13) where
       → AtExit (ended_of 13 close-face-kinds.ps close-face-kinds.r) κs → Both Output Output
   close_face_output a s =
       output
-      (lent a.1.1.1.1.1.1.1.1.1.1.0 s.1.1.1.1.1.1.1.1.1.1.0)
-      (lent a.1.1.1.1.1.1.1.1.1.1.1.0 s.1.1.1.1.1.1.1.1.1.1.1.0)
+      (shown a.1.1.1.1.1.1.1.1.1.1.0 s.1.1.1.1.1.1.1.1.1.1.0)
+      (shown a.1.1.1.1.1.1.1.1.1.1.1.0 s.1.1.1.1.1.1.1.1.1.1.1.0)
       (lent a.1.1.1.1.1.1.1.1.1.1.1.1.0 s.1.1.1.1.1.1.1.1.1.1.1.1.0)
 
   -- its command

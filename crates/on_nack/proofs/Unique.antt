@@ -3,7 +3,7 @@
 -- Assumes nothing.
 use mathlib.Core.Path.{◌≡◌, refl}
 use contract.Lifetimes.{Lfts}
-use denote.Ref.{Bor}
+use Rattle.std.specs.Borrow.{Bor, MutBor}
 use denote.Triple.Both.{Both}
 use denote.Triple.Clauses.{AtExit}
 use borrow.Fn.Kinds.{Dens, ended_of, res_t}
@@ -15,24 +15,28 @@ use Rattle.on_nack.specs.Laws.Same.{nack_on_same}
 use Rattle.on_nack.proofs.nack.Kinds as kinds
 use Rattle.on_nack.proofs.nack.Reads as reads
 
--- what was lent, from its two ends
-abbrev lent : {A : Type 0} → Bor A → Bor A → Lent A
-lent e x = record { entry = e; exit = x }
+-- what was lent behind `&mut`, from its two ends
+abbrev lent : {A : Type 0} → MutBor A → MutBor A → Lent A
+lent e x = record { entry = e.now; exit = x.now }
+
+-- what was lent behind `&`, from its two ends
+abbrev shown : {A : Type 0} → Bor A → Bor A → Lent A
+shown e x = record { entry = e.now; exit = x.now }
 
 module _ (κs : Lfts 14) where
   -- the memory of a Nack at entry and at exit
   abbrev pub nack_memory : Dens κs kinds.ps → Came → AtExit (ended_of 14 kinds.ps kinds.r) κs → Both Memory Memory
   nack_memory a r s =
       memory a.1.1.1.1.1.1.1.1.1.1.1.1.1.0 r.small
-      (lent a.0 s.0)
-      (lent a.1.0 s.1.0)
-      (lent a.1.1.0 s.1.1.0)
-      (lent a.1.1.1.0 s.1.1.1.0)
+      (shown a.0 s.0)
+      (shown a.1.0 s.1.0)
+      (shown a.1.1.0 s.1.1.0)
+      (shown a.1.1.1.0 s.1.1.1.0)
       (lent a.1.1.1.1.0 s.1.1.1.1.0)
       (lent a.1.1.1.1.1.0 s.1.1.1.1.1.0)
-      (lent a.1.1.1.1.1.1.0 s.1.1.1.1.1.1.0)
-      (lent a.1.1.1.1.1.1.1.0 s.1.1.1.1.1.1.1.0)
-      (lent a.1.1.1.1.1.1.1.1.0 s.1.1.1.1.1.1.1.1.0)
+      (shown a.1.1.1.1.1.1.0 s.1.1.1.1.1.1.0)
+      (shown a.1.1.1.1.1.1.1.0 s.1.1.1.1.1.1.1.0)
+      (shown a.1.1.1.1.1.1.1.1.0 s.1.1.1.1.1.1.1.1.0)
       (lent a.1.1.1.1.1.1.1.1.1.0 s.1.1.1.1.1.1.1.1.1.0)
 
   -- its output at entry and at exit

@@ -3,7 +3,7 @@
 -- Assumes nothing.
 use mathlib.Core.Path.{◌≡◌, refl}
 use contract.Lifetimes.{Lfts}
-use denote.Ref.{Bor}
+use Rattle.std.specs.Borrow.{Bor, MutBor}
 use denote.Triple.Both.{Both}
 use denote.Triple.Clauses.{AtExit}
 use borrow.Fn.Kinds.{Dens, ended_of, res_t}
@@ -21,9 +21,13 @@ use Rattle.on_route.proofs.add_hop.Reads as add-hop-reads
 use Rattle.on_route.proofs.drop_hop.Kinds as drop-hop-kinds
 use Rattle.on_route.proofs.drop_hop.Reads as drop-hop-reads
 
--- what was lent, from its two ends
-abbrev lent : {A : Type 0} → Bor A → Bor A → Lent A
-lent e x = record { entry = e; exit = x }
+-- what was lent behind `&mut`, from its two ends
+abbrev lent : {A : Type 0} → MutBor A → MutBor A → Lent A
+lent e x = record { entry = e.now; exit = x.now }
+
+-- what was lent behind `&`, from its two ends
+abbrev shown : {A : Type 0} → Bor A → Bor A → Lent A
+shown e x = record { entry = e.now; exit = x.now }
 
 module _ (κs : Lfts 14) where
   -- the memory of dropping a route at entry and at exit
@@ -34,12 +38,12 @@ module _ (κs : Lfts 14) where
       (lent a.0 s.0)
       (lent a.1.0 s.1.0)
       (lent a.1.1.0 s.1.1.0)
-      (lent a.1.1.1.0 s.1.1.1.0)
+      (shown a.1.1.1.0 s.1.1.1.0)
       (lent a.1.1.1.1.0 s.1.1.1.1.0)
-      (lent a.1.1.1.1.1.0 s.1.1.1.1.1.0)
-      (lent a.1.1.1.1.1.1.0 s.1.1.1.1.1.1.0)
-      (lent a.1.1.1.1.1.1.1.0 s.1.1.1.1.1.1.1.0)
-      (lent a.1.1.1.1.1.1.1.1.0 s.1.1.1.1.1.1.1.1.0)
+      (shown a.1.1.1.1.1.0 s.1.1.1.1.1.0)
+      (shown a.1.1.1.1.1.1.0 s.1.1.1.1.1.1.0)
+      (shown a.1.1.1.1.1.1.1.0 s.1.1.1.1.1.1.1.0)
+      (shown a.1.1.1.1.1.1.1.1.0 s.1.1.1.1.1.1.1.1.0)
       (lent a.1.1.1.1.1.1.1.1.1.0 s.1.1.1.1.1.1.1.1.1.0)
 
   -- its output at entry and at exit
@@ -47,8 +51,8 @@ module _ (κs : Lfts 14) where
       → AtExit (ended_of 14 drop-route-kinds.ps drop-route-kinds.r) κs → Both Output Output
   drop_route_output a s =
       output
-      (lent a.1.1.1.1.1.1.1.1.1.1.0 s.1.1.1.1.1.1.1.1.1.1.0)
-      (lent a.1.1.1.1.1.1.1.1.1.1.1.0 s.1.1.1.1.1.1.1.1.1.1.1.0)
+      (shown a.1.1.1.1.1.1.1.1.1.1.0 s.1.1.1.1.1.1.1.1.1.1.0)
+      (shown a.1.1.1.1.1.1.1.1.1.1.1.0 s.1.1.1.1.1.1.1.1.1.1.1.0)
       (lent a.1.1.1.1.1.1.1.1.1.1.1.1.0 s.1.1.1.1.1.1.1.1.1.1.1.1.0)
 
   -- its command
@@ -86,13 +90,13 @@ module _ (κs : Lfts 14) where
       memory a.1.1.1.1.1.1.1.1.1.1.1.1.1.0 r.small
       (lent a.0 s.0)
       (lent a.1.0 s.1.0)
-      (lent a.1.1.0 s.1.1.0)
-      (lent a.1.1.1.0 s.1.1.1.0)
+      (shown a.1.1.0 s.1.1.0)
+      (shown a.1.1.1.0 s.1.1.1.0)
       (lent a.1.1.1.1.0 s.1.1.1.1.0)
-      (lent a.1.1.1.1.1.0 s.1.1.1.1.1.0)
-      (lent a.1.1.1.1.1.1.0 s.1.1.1.1.1.1.0)
-      (lent a.1.1.1.1.1.1.1.0 s.1.1.1.1.1.1.1.0)
-      (lent a.1.1.1.1.1.1.1.1.0 s.1.1.1.1.1.1.1.1.0)
+      (shown a.1.1.1.1.1.0 s.1.1.1.1.1.0)
+      (shown a.1.1.1.1.1.1.0 s.1.1.1.1.1.1.0)
+      (shown a.1.1.1.1.1.1.1.0 s.1.1.1.1.1.1.1.0)
+      (shown a.1.1.1.1.1.1.1.1.0 s.1.1.1.1.1.1.1.1.0)
       (lent a.1.1.1.1.1.1.1.1.1.0 s.1.1.1.1.1.1.1.1.1.0)
 
   -- its output at entry and at exit
@@ -100,8 +104,8 @@ module _ (κs : Lfts 14) where
       → AtExit (ended_of 14 set-route-kinds.ps set-route-kinds.r) κs → Both Output Output
   set_route_output a s =
       output
-      (lent a.1.1.1.1.1.1.1.1.1.1.0 s.1.1.1.1.1.1.1.1.1.1.0)
-      (lent a.1.1.1.1.1.1.1.1.1.1.1.0 s.1.1.1.1.1.1.1.1.1.1.1.0)
+      (shown a.1.1.1.1.1.1.1.1.1.1.0 s.1.1.1.1.1.1.1.1.1.1.0)
+      (shown a.1.1.1.1.1.1.1.1.1.1.1.0 s.1.1.1.1.1.1.1.1.1.1.1.0)
       (lent a.1.1.1.1.1.1.1.1.1.1.1.1.0 s.1.1.1.1.1.1.1.1.1.1.1.1.0)
 
   -- its command
@@ -137,15 +141,15 @@ module _ (κs : Lfts 14) where
       → AtExit (ended_of 14 add-hop-kinds.ps add-hop-kinds.r) κs → Both Memory Memory
   add_hop_memory a r s =
       memory a.1.1.1.1.1.1.1.1.1.1.1.1.1.0 r.small
-      (lent a.0 s.0)
+      (shown a.0 s.0)
       (lent a.1.0 s.1.0)
       (lent a.1.1.0 s.1.1.0)
-      (lent a.1.1.1.0 s.1.1.1.0)
+      (shown a.1.1.1.0 s.1.1.1.0)
       (lent a.1.1.1.1.0 s.1.1.1.1.0)
-      (lent a.1.1.1.1.1.0 s.1.1.1.1.1.0)
-      (lent a.1.1.1.1.1.1.0 s.1.1.1.1.1.1.0)
-      (lent a.1.1.1.1.1.1.1.0 s.1.1.1.1.1.1.1.0)
-      (lent a.1.1.1.1.1.1.1.1.0 s.1.1.1.1.1.1.1.1.0)
+      (shown a.1.1.1.1.1.0 s.1.1.1.1.1.0)
+      (shown a.1.1.1.1.1.1.0 s.1.1.1.1.1.1.0)
+      (shown a.1.1.1.1.1.1.1.0 s.1.1.1.1.1.1.1.0)
+      (shown a.1.1.1.1.1.1.1.1.0 s.1.1.1.1.1.1.1.1.0)
       (lent a.1.1.1.1.1.1.1.1.1.0 s.1.1.1.1.1.1.1.1.1.0)
 
   -- its output at entry and at exit
@@ -153,8 +157,8 @@ module _ (κs : Lfts 14) where
       → AtExit (ended_of 14 add-hop-kinds.ps add-hop-kinds.r) κs → Both Output Output
   add_hop_output a s =
       output
-      (lent a.1.1.1.1.1.1.1.1.1.1.0 s.1.1.1.1.1.1.1.1.1.1.0)
-      (lent a.1.1.1.1.1.1.1.1.1.1.1.0 s.1.1.1.1.1.1.1.1.1.1.1.0)
+      (shown a.1.1.1.1.1.1.1.1.1.1.0 s.1.1.1.1.1.1.1.1.1.1.0)
+      (shown a.1.1.1.1.1.1.1.1.1.1.1.0 s.1.1.1.1.1.1.1.1.1.1.1.0)
       (lent a.1.1.1.1.1.1.1.1.1.1.1.1.0 s.1.1.1.1.1.1.1.1.1.1.1.1.0)
 
   -- its command
@@ -191,15 +195,15 @@ module _ (κs : Lfts 14) where
       → AtExit (ended_of 14 drop-hop-kinds.ps drop-hop-kinds.r) κs → Both Memory Memory
   drop_hop_memory a r s =
       memory a.1.1.1.1.1.1.1.1.1.1.1.1.1.0 r.small
-      (lent a.0 s.0)
+      (shown a.0 s.0)
       (lent a.1.0 s.1.0)
-      (lent a.1.1.0 s.1.1.0)
-      (lent a.1.1.1.0 s.1.1.1.0)
+      (shown a.1.1.0 s.1.1.0)
+      (shown a.1.1.1.0 s.1.1.1.0)
       (lent a.1.1.1.1.0 s.1.1.1.1.0)
-      (lent a.1.1.1.1.1.0 s.1.1.1.1.1.0)
-      (lent a.1.1.1.1.1.1.0 s.1.1.1.1.1.1.0)
-      (lent a.1.1.1.1.1.1.1.0 s.1.1.1.1.1.1.1.0)
-      (lent a.1.1.1.1.1.1.1.1.0 s.1.1.1.1.1.1.1.1.0)
+      (shown a.1.1.1.1.1.0 s.1.1.1.1.1.0)
+      (shown a.1.1.1.1.1.1.0 s.1.1.1.1.1.1.0)
+      (shown a.1.1.1.1.1.1.1.0 s.1.1.1.1.1.1.1.0)
+      (shown a.1.1.1.1.1.1.1.1.0 s.1.1.1.1.1.1.1.1.0)
       (lent a.1.1.1.1.1.1.1.1.1.0 s.1.1.1.1.1.1.1.1.1.0)
 
   -- its output at entry and at exit
@@ -207,8 +211,8 @@ module _ (κs : Lfts 14) where
       → AtExit (ended_of 14 drop-hop-kinds.ps drop-hop-kinds.r) κs → Both Output Output
   drop_hop_output a s =
       output
-      (lent a.1.1.1.1.1.1.1.1.1.1.0 s.1.1.1.1.1.1.1.1.1.1.0)
-      (lent a.1.1.1.1.1.1.1.1.1.1.1.0 s.1.1.1.1.1.1.1.1.1.1.1.0)
+      (shown a.1.1.1.1.1.1.1.1.1.1.0 s.1.1.1.1.1.1.1.1.1.1.0)
+      (shown a.1.1.1.1.1.1.1.1.1.1.1.0 s.1.1.1.1.1.1.1.1.1.1.1.0)
       (lent a.1.1.1.1.1.1.1.1.1.1.1.1.0 s.1.1.1.1.1.1.1.1.1.1.1.1.0)
 
   -- its command

@@ -4,7 +4,7 @@
 use Prim.Native.Nat.{ℕ}
 use mathlib.Core.Path.{◌≡◌, refl, sym, ap, ◌∙◌}
 use contract.Lifetimes.{Lfts}
-use denote.Ref.{Bor}
+use Rattle.std.specs.Borrow.{Bor, MutBor}
 use denote.Triple.Both.{Both}
 use denote.Triple.Clauses.{AtExit}
 use borrow.Fn.Kinds.{Dens, ended_of, res_t}
@@ -20,9 +20,13 @@ use Rattle.opening.proofs.refused.Reads as refused-reads
 use Rattle.opening.proofs.route.Kinds as kinds
 use Rattle.opening.proofs.route.Reads as reads
 
--- what was lent, from its two ends
-abbrev pub lent : {A : Type 0} → Bor A → Bor A → Lent A
-lent e x = record { entry = e; exit = x }
+-- what was lent behind `&mut`, from its two ends
+abbrev pub lent : {A : Type 0} → MutBor A → MutBor A → Lent A
+lent e x = record { entry = e.now; exit = x.now }
+
+-- what was lent behind `&`, from its two ends
+abbrev pub shown : {A : Type 0} → Bor A → Bor A → Lent A
+shown e x = record { entry = e.now; exit = x.now }
 
 -- two outcomes of a refusal
 pub refused_one : (κs : Lfts 6) (a : Dens κs refused-kinds.ps) (x y : (res_t refused-kinds.r κs).Denot)
@@ -41,9 +45,9 @@ module _ (κs : Lfts 12) where
   abbrev pub route_memory : Dens κs kinds.ps → Came → AtExit (ended_of 12 kinds.ps kinds.r) κs → Table → Table → Table → Both Memory Memory
   route_memory a r s packets uses lines =
       beside_store a.1.1.1.1.1.1.1.1.1.1.0 r.small
-      (lent a.0 s.0)
-      (lent a.1.0 s.1.0)
-      (lent a.1.1.0 s.1.1.0)
+      (shown a.0 s.0)
+      (shown a.1.0 s.1.0)
+      (shown a.1.1.0 s.1.1.0)
       (lent a.1.1.1.0 s.1.1.1.0)
       (lent a.1.1.1.1.0 s.1.1.1.1.0)
       (lent a.1.1.1.1.1.0 s.1.1.1.1.1.0)

@@ -1,5 +1,4 @@
 -- By what the guard says, and then by what the reader found.
-use borrow.Author.Rules.{rules}
 use mathlib.Core.Path.{refl, sym, ◌∙◌}
 use Rattle.event.specs.Memory.{Memory, node_of}
 use Rattle.coming.specs.Laws.Goes.{goes_is}

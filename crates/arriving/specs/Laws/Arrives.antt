@@ -1,6 +1,6 @@
 -- A bare packet that came in, by what the code asks: the guard, and what the reader found.
 -- Assumes nothing.
-use Rattle.std.specs.Prelude.{ℕ, ◌≤◌, ◌≡◌, refl, Bool, List, ◌≢◌, length}
+use Rattle.std.specs.Prelude.{ℕ, ◌≤◌, ◌≡◌, Bool, List, ◌≢◌, length}
 use Rattle.std.proofs.Math.Path.{sym, ap}
 use Rattle.std.proofs.Common.{◌∙◌}
 use Rattle.answers.specs.declared.Answer.{Answer}
@@ -21,7 +21,7 @@ use Rattle.rules.specs.Data.{data_step}
 use Rattle.rules.specs.Nack.{nack_step}
 use Rattle.rules.specs.Step.{arrives}
 use Rattle.event.specs.declared.Came.{Came}
-use Rattle.event.specs.Memory.{Memory, Output, node_of}
+use Rattle.event.specs.Memory.{Output}
 use Rattle.coming.specs.Goes.{Goes, guard_says, guarded}
 use Rattle.coming.specs.Places.Found.{ask_found, arrival_found, offer_found}
 use Rattle.coming.specs.Laws.Guard.{guard_time, guard_room, guard_packet, guard_stops, guard_goes, guard_within}

@@ -2,7 +2,7 @@
 -- Assumes nothing.
 use Rattle.std.specs.Prelude.{ℕ, ◌≤◌, min, Bool, List, length, ltb}
 use Rattle.std.proofs.Math.Path.{◌≡◌, refl}
-use Rattle.std.proofs.Common.{sym, ap, ◌∙◌, arith, ltb-false}
+use Rattle.std.proofs.Common.{sym, ◌∙◌, arith, ltb-false}
 use Rattle.answers.specs.declared.Answer.{Answer}
 use Rattle.laws.specs.Laws.Pick.{pick_ind}
 use Rattle.sizes.specs.Sizes.{most_name, most_lifetime, most_freshness}
@@ -15,7 +15,7 @@ use Rattle.packets.specs.declared.bare.Data.{Data}
 use Rattle.packets.specs.declared.bare.Packet.{Packet}
 use Rattle.packets.specs.Bare.{Reading, capped, lifetime_of, freshness_of, bare_read}
 use Rattle.packets.specs.Bare as bare
-use Rattle.packets.specs.Meaning.{refused, asks, brings, nacks, hop_of, ask_of, offer_of, leaving, meant, heard_bare}
+use Rattle.packets.specs.Meaning.{refused, asks, brings, nacks, hop_of, ask_of, offer_of, meant, heard_bare}
 use Rattle.packets.specs.Places.Bare.{hop_in, interest_in, packet_in}
 use Rattle.packets.specs.Places.View.{lowered}
 use Rattle.packets.specs.Laws.Shape.{asks_made, brings_made, nacks_made, bare_means}

@@ -1,6 +1,6 @@
 -- What the guard's answer says: it is the outcome's, or the event goes on with a time, a buffer, a packet and a name of their sizes.
 -- Assumes nothing.
-use Rattle.std.specs.Prelude.{ℕ, ◌≤◌, ◌<◌, ◌≡◌, refl, Bool, true, false, List, ◌≢◌, length, ltb}
+use Rattle.std.specs.Prelude.{ℕ, ◌≤◌, ◌≡◌, refl, Bool, true, false, List, ◌≢◌, length, ltb}
 use Rattle.std.proofs.Common.{sym, ◌∙◌, arith, ltb-false, le-ltb}
 use Rattle.std.proofs.Math.Path.{ap}
 use Rattle.answers.specs.declared.Answer.{Answer}

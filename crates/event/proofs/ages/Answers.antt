@@ -1,5 +1,4 @@
 -- Ageing is what its contract says, and the rest of the small state is as it was.
-use borrow.Author.Rules.{rules}
 use Rattle.event.specs.Laws.Begins.{aged_came}
 use Rattle.event.proofs.ages.Goals as goal
 

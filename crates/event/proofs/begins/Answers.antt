@@ -1,5 +1,4 @@
 -- By the answer of the checks: a refusal leaves all as it was; past it ageing is what its contract says.
-use borrow.Author.Rules.{rules}
 use mathlib.Core.Path.{sym, ◌∙◌}
 use Rattle.event.specs.Laws.Begins.{begins_refused, begins_aged}
 use Rattle.event.proofs.begins.Goals as goal

@@ -1,5 +1,4 @@
 -- Each table's empty state has nothing, whatever the memory holds.
-use borrow.Author.Rules.{rules}
 use mathlib.Core.Path.{refl}
 use Rattle.event.specs.Laws.Begins.{clear_node}
 use Rattle.event.proofs.clear.Goals as goal

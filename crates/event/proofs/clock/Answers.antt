@@ -1,5 +1,4 @@
 -- The clock only begins.
-use borrow.Author.Rules.{rules}
 use Rattle.event.specs.Laws.Begun.{clock_begins}
 use Rattle.event.specs.Laws.Comes.{comes_by}
 use Rattle.event.proofs.clock.Goals as goal

@@ -1,5 +1,4 @@
 -- By the test.
-use borrow.Author.Rules.{rules}
 use mathlib.Core.Path.{sym, ap, ◌∙◌}
 use mathlib.Core.Bool.{not}
 use Rattle.event.proofs.is_not_open.Goals as goal

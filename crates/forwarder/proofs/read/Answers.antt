@@ -1,5 +1,4 @@
 -- By the header, and what stands in it.
-use borrow.Author.Rules.{rules}
 use native.Mathlib.Nat.{add-sub_cancel_left}
 use mathlib.Core.Path.{refl}
 use Rattle.event.specs.Memory.{node_of}

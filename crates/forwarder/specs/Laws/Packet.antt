@@ -17,14 +17,13 @@ use Rattle.packethead.specs.Places.Header.{header_from, header_in}
 use Rattle.packets.specs.Meaning.{heard_bare, came_means, heard}
 use Rattle.packets.specs.Laws.Shape.{bare_in, bare_short, heard_is}
 use Rattle.rules.specs.Node.{Node, packet, face_in, opens_face}
-use Rattle.rules.specs.Outcome.{Outcome, quiet}
 use Rattle.rules.specs.Step.{arrives, what_step, bad_face}
 use Rattle.event.specs.declared.Came as event
 use Rattle.event.specs.Memory.{Memory, Output, node_of}
 use Rattle.event.specs.Comes.{Comes, Begun}
 use Rattle.event.specs.Laws.Faces.{bad_named}
 use Rattle.event.specs.Laws.Rows.{comes_noted, begun_now, begun_in_time, begun_long, begun_opening, begun_data, begun_entry}
-use Rattle.coming.specs.Goes.{Goes, guarded}
+use Rattle.coming.specs.Goes.{Goes}
 use Rattle.coming.specs.Laws.Guard.{guard_within}
 use Rattle.coming.specs.Laws.Goes.{goes_by, goes_quiet}
 use Rattle.arriving.specs.Coming.{comes_in}

@@ -1,17 +1,14 @@
 -- A packet that arrives notes one opening, or an end for each request of some entries, or for requests of one entry: where these have
 -- their rows, it has.
 -- Assumes nothing.
-use Rattle.std.specs.Prelude.{ℕ, ◌+◌, ◌≤◌, ◌≡◌, refl, true, false}
-use Rattle.std.proofs.Common.{sym, ap, ◌∙◌}
+use Rattle.std.specs.Prelude.{ℕ, ◌+◌, ◌≤◌, ◌≡◌, refl}
 use Rattle.std.proofs.Math.Bool.{Bool}
-use mathlib.Core.List.{List, [], ◌∷◌, map}
+use mathlib.Core.List.{List, [], ◌∷◌}
 use Rattle.std.proofs.Math.Option.{Option, none, some}
 use native.Mathlib.Omega.{arith}
 use Rattle.std.proofs.Math.ListN.{length, length-map}
-use Rattle.laws.specs.Pick.{pick}
 use Rattle.laws.specs.Laws.Pick.{pick_ind}
 use Rattle.packets.specs.Meaning.{Ask, Offer, Heard, refused, asks, brings, nacks}
-use Rattle.records.specs.Class.{Class}
 use Rattle.records.specs.Face.{is_peer}
 use Rattle.records.specs.Slots.{at_place, slot, is_some, given, Held, held, only, each}
 use Rattle.records.specs.Laws.Each.{only_length}

@@ -1,12 +1,11 @@
 -- By how many entries stand after the pass: as many as before, and the Data is unsolicited; else it is stored and its copies are sent.
-use borrow.Author.Rules.{rules}
 use Rattle.on_data.specs.Laws.Data.{brings_none, brings_some}
 use Rattle.on_data.proofs.bring.Goals as goal
 
 pub returns-then-size : goal.returns-then-size
 returns-then-size c =
     brings_none _ _ _ _ _ _ _ _ _ _ _ _ _ _ _ _ _ _ _ _ _ _ _ _ _
-    c.requires.name-is
+    c.requires.name_is
     c.satisfy-met.ensures _ _ c.size.ensures
     c.size-2.ensures _ _ _ c.if-size.true
     c.quiet.ensures
@@ -14,7 +13,7 @@ returns-then-size c =
 pub returns : goal.returns
 returns c =
     brings_some _ _ _ _ _ _ _ _ _ _ _ _ _ _ _ _ _ _ _ _ _ _ _ _ _
-    c.requires.name-is
+    c.requires.name_is
     c.satisfy-met.ensures _ _
     c.size.ensures
     c.size-2.ensures

@@ -1,5 +1,4 @@
 -- By what is asked again, then by the scope.
-use borrow.Author.Rules.{rules}
 use mathlib.Core.Path.{sym, ◌∙◌}
 use Rattle.coming.specs.Laws.Guard.{guard_packet, guard_room}
 use Rattle.on_data.specs.Laws.Data.{data_stops, data_scope, data_brings}

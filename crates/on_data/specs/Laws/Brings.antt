@@ -1,6 +1,6 @@
 -- What a Data comes to past the checks of size and scope: it matches no entry, or it is stored and ends requests.
 -- Assumes nothing.
-use Rattle.std.specs.Prelude.{ℕ, ◌≤◌, ◌≡◌, Bool, false, length, get_or}
+use Rattle.std.specs.Prelude.{ℕ, ◌≤◌, ◌≡◌, Bool, false, length}
 use Rattle.std.proofs.Common.{ap, ◌∙◌, arith, le-leb}
 use mathlib.Core.List.{List, [], map}
 use Rattle.answers.specs.declared.Answer.{Answer}
@@ -10,15 +10,12 @@ use Rattle.names.specs.Fingerprint.{fnv_start, fingerprint}
 use Rattle.packethead.specs.Name.{name_of}
 use Rattle.packets.specs.Meaning.{Offer}
 use Rattle.records.specs.Slots.{only, each, is_empty}
-use Rattle.records.specs.Class.{class_of, class_number}
-use Rattle.records.specs.Laws.Class.{class_number_lem}
 use Rattle.records.specs.Entry.{Entry, matches}
 use Rattle.records.specs.Face.{is_ad_hoc_face}
 use Rattle.records.specs.Line.{Line, joined_all}
 use Rattle.records.specs.Rows.{row_of}
 use Rattle.records.specs.Stored.{Stored, stored}
 use Rattle.faces.specs.Set.{has_face}
-use Rattle.pending_entry.specs.Places.View as entry
 use Rattle.pending_table.specs.Places.View as pending
 use Rattle.pending_table.specs.declared.Pending.{Pending}
 use Rattle.pending_pass.specs.Lowest.{class_word, class_words, is_asked, meets_own, is_owed}

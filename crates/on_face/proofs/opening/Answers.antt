@@ -1,5 +1,4 @@
 -- One law for each arm.
-use borrow.Author.Rules.{rules}
 use Rattle.on_face.specs.Laws.Faces.{opens_taken, opens_scope, opens_link, opens_done}
 use Rattle.on_face.proofs.opening.Goals as goal
 

@@ -1,5 +1,4 @@
 -- By the store.
-use borrow.Author.Rules.{rules}
 use Rattle.event.specs.Memory.{Memory}
 use Rattle.on_interest.specs.Laws.Anew.{anew_serves, anew_routes}
 use Rattle.on_interest.proofs.ask_anew.Goals as goal
@@ -9,9 +8,7 @@ serve-requires c = c.requires.roomy
 
 pub returns-then-is_there : goal.returns-then-is_there
 returns-then-is_there c =
-    let at-if1 = c {-Then1-} in
-    let start = at-if1.before.before.before.before.before.before.before.before.before.before.before in
-    let a = start.args in
+    let a = c.args in
     let m : Memory = record {
       small = a.small;
       prefixes = a.prefixes.now;
@@ -25,15 +22,12 @@ returns-then-is_there c =
       uses = a.uses.now;
       lines = a.lines.now;
     } in
-    anew_serves m a.made a.face a.bare.now a.name.now a.i _ start.requires.own
-    at-if1.before.before.before.before.look.ensures _ at-if1.before.is-there.ensures _ _ _ _ at-if1.if1.true
-    (c.serve.ensures m.names m.heads m.recs m.numbers m.lines a.rows.now)
+    anew_serves m a.made a.face a.bare.now a.name.now a.i _ c.requires.own c.look-hit.ensures _ c.is_there.ensures _ _ _ _
+    c.if-is_there.true (c.serve.ensures m.names m.heads m.recs m.numbers m.lines a.rows.now)
 
 pub returns : goal.returns
 returns c =
-    let at-if1 = c {-Else1-} in
-    let start = at-if1.before.before.before.before.before.before.before.before.before.before.before in
-    let a = start.args in
+    let a = c.args in
     let m : Memory = record {
       small = a.small;
       prefixes = a.prefixes.now;
@@ -47,6 +41,5 @@ returns c =
       uses = a.uses.now;
       lines = a.lines.now;
     } in
-    anew_routes m a.made a.face a.bare.now a.name.now a.i _ start.requires.own
-    at-if1.before.before.before.before.look.ensures _ at-if1.before.is-there.ensures _ _ _ _ at-if1.if1.false start.requires
-    (c.route.ensures m.packets m.uses m.lines)
+    anew_routes m a.made a.face a.bare.now a.name.now a.i _ c.requires.own c.look-hit.ensures _ c.is_there.ensures _ _ _ _
+    c.if-is_there.false c.requires (c.route.ensures m.packets m.uses m.lines)

@@ -1,5 +1,4 @@
 -- By what is asked before the tables, then by the loop, and then by the entry.
-use borrow.Author.Rules.{rules}
 use Rattle.event.specs.Memory.{Memory}
 use Rattle.opening.specs.Laws.Refused.{refused_goes}
 use Rattle.on_interest.specs.Laws.Checks.{checks_off, checks_hold, checks_on}
@@ -27,11 +26,9 @@ returns-then-number-ne0 c =
 
 pub returns-then-seen : goal.returns-then-seen
 returns-then-seen c =
-    let at-if2 = c {-Then2-} in
-    let at-if1 = at-if2.before.before.before.before.before.before in
-    let a = at-if1.before.before.before.before.before.before.args in
-    let own = at-if1.before.before.before.find-name.ensures in
-    let seen = at-if2.before.see.ensures in
+    let a = c.args in
+    let own = c.find_name-name.ensures in
+    let seen = c.see-seen.ensures in
     let said = c.refused.ensures in
     let m : Memory = record {
       small = a.small;
@@ -46,19 +43,14 @@ returns-then-seen c =
       uses = a.uses.now;
       lines = a.lines.now;
     } in
-    let sized = checks_hold m a.made _ a.face a.bare.now _ a.i own _ _ at-if1.before.before.check.ensures
-    at-if1.before.number.ensures at-if1.if1.false in
-    checks_on m a.made _ a.face a.bare.now _ a.i own _ _ at-if1.before.before.check.ensures
-    at-if1.before.number.ensures at-if1.if1.false _ _ _ _
-    (sought_loop m a.made a.face a.bare.now _ a.i _ own seen.at _ seen.looping _ _ _ _ at-if2.if2.true
-    (refused_goes m a.made _ _ a.face _ a.i _ _ _ _ _ _ sized.short sized.roomy said.0 said.1))
+    let sized = checks_hold m a.made _ a.face a.bare.now _ a.i own _ _ c.check-said.ensures c.number.ensures c.if-number-ne0.false in
+    checks_on m a.made _ a.face a.bare.now _ a.i own _ _ c.check-said.ensures c.number.ensures c.if-number-ne0.false _ _ _ _
+    (sought_loop m a.made a.face a.bare.now _ a.i _ own seen.at _ seen.looping _ _ _ _ c.if-seen.true
+    (refused_goes m a.made _ _ a.face _ a.i _ _ _ _ _ _ sized.short sized.roomy said.answers said.packs))
 
 pub ask_again-requires : goal.ask_again-requires
 ask_again-requires c =
-    let at-if2 = c {-Else1-} in
-    let at-if1 = at-if2.before.before.before.before.before.before in
-    let a = at-if1.before.before.before.before.before.before.args in
-    let own = at-if1.before.before.before.find-name.ensures in
+    let a = c.args in
     let m : Memory = record {
       small = a.small;
       prefixes = a.prefixes.now;
@@ -72,16 +64,14 @@ ask_again-requires c =
       uses = a.uses.now;
       lines = a.lines.now;
     } in
-    checks_hold m a.made _ a.face a.bare.now _ a.i own _ _ at-if1.before.before.check.ensures
-    at-if1.before.number.ensures at-if1.if1.false
+    checks_hold m a.made _ a.face a.bare.now _ a.i c.find_name-name.ensures _ _
+    c.check-said.ensures c.number.ensures c.if-number-ne0.false
 
 pub returns-then-seen-2 : goal.returns-then-seen-2
 returns-then-seen-2 c =
-    let at-if2 = c {-Else1-} in
-    let at-if1 = at-if2.before.before.before.before.before.before in
-    let a = at-if1.before.before.before.before.before.before.args in
-    let own = at-if1.before.before.before.find-name.ensures in
-    let seen = at-if2.before.see.ensures in
+    let a = c.args in
+    let own = c.find_name-name.ensures in
+    let seen = c.see-seen.ensures in
     let m : Memory = record {
       small = a.small;
       prefixes = a.prefixes.now;
@@ -95,18 +85,13 @@ returns-then-seen-2 c =
       uses = a.uses.now;
       lines = a.lines.now;
     } in
-    checks_on m a.made _ a.face a.bare.now _ a.i own _ _ at-if1.before.before.check.ensures
-    at-if1.before.number.ensures at-if1.if1.false _ _ _ _
-    (sought_again m a.made a.face a.bare.now _ a.i _ own seen.at _ seen.looping _ _ _ _ at-if2.if2.false _
-    seen.standing c.if-seen-2.true
-    (c.ask_again.ensures a.packets.now a.uses.now a.lines.now))
+    checks_on m a.made _ a.face a.bare.now _ a.i own _ _ c.check-said.ensures c.number.ensures c.if-number-ne0.false _ _ _ _
+    (sought_again m a.made a.face a.bare.now _ a.i _ own seen.at _ seen.looping _ _ _ _ c.if-seen.false _
+    seen.standing c.if-seen-2.true (c.ask_again.ensures a.packets.now a.uses.now a.lines.now))
 
 pub ask_anew-requires : goal.ask_anew-requires
 ask_anew-requires c =
-    let at-if2 = c {-Else2-} in
-    let at-if1 = at-if2.before.before.before.before.before.before in
-    let a = at-if1.before.before.before.before.before.before.args in
-    let own = at-if1.before.before.before.find-name.ensures in
+    let a = c.args in
     let m : Memory = record {
       small = a.small;
       prefixes = a.prefixes.now;
@@ -120,16 +105,14 @@ ask_anew-requires c =
       uses = a.uses.now;
       lines = a.lines.now;
     } in
-    checks_hold m a.made _ a.face a.bare.now _ a.i own _ _ at-if1.before.before.check.ensures
-    at-if1.before.number.ensures at-if1.if1.false
+    checks_hold m a.made _ a.face a.bare.now _ a.i c.find_name-name.ensures _ _
+    c.check-said.ensures c.number.ensures c.if-number-ne0.false
 
 pub returns : goal.returns
 returns c =
-    let at-if2 = c {-Else2-} in
-    let at-if1 = at-if2.before.before.before.before.before.before in
-    let a = at-if1.before.before.before.before.before.before.args in
-    let own = at-if1.before.before.before.find-name.ensures in
-    let seen = at-if2.before.see.ensures in
+    let a = c.args in
+    let own = c.find_name-name.ensures in
+    let seen = c.see-seen.ensures in
     let m : Memory = record {
       small = a.small;
       prefixes = a.prefixes.now;
@@ -143,8 +126,6 @@ returns c =
       uses = a.uses.now;
       lines = a.lines.now;
     } in
-    checks_on m a.made _ a.face a.bare.now _ a.i own _ _ at-if1.before.before.check.ensures
-    at-if1.before.number.ensures at-if1.if1.false _ _ _ _
-    (sought_anew m a.made a.face a.bare.now _ a.i _ own seen.at _ seen.looping _ _ _ _ at-if2.if2.false _
-    seen.standing c.if-seen-2.false
-    c.ask_anew.ensures)
+    checks_on m a.made _ a.face a.bare.now _ a.i own _ _ c.check-said.ensures c.number.ensures c.if-number-ne0.false _ _ _ _
+    (sought_anew m a.made a.face a.bare.now _ a.i _ own seen.at _ seen.looping _ _ _ _ c.if-seen.false _
+    seen.standing c.if-seen-2.false c.ask_anew.ensures)

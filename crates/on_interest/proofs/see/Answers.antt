@@ -1,5 +1,4 @@
 -- By the entry that was found.
-use borrow.Author.Rules.{rules}
 use Rattle.ways.specs.Laws.Own.{loops_own}
 use Rattle.on_interest.proofs.see.Goals as goal
 

@@ -21,7 +21,6 @@ use Rattle.happenings.specs.declared.Fate.{Fate}
 use Rattle.happenings.specs.Noted.{most_rows, fate_in, note_of, Notes}
 use Rattle.happenings.specs.Laws.Noted.{row_is, notes_none}
 use Rattle.pending_entry.specs.Operations.{request_with, asking_faces}
-use Rattle.pending_table.specs.declared.Opened.{Opened}
 use Rattle.event.specs.Memory.{Table}
 
 -- the faces with a request are those whose slot holds one

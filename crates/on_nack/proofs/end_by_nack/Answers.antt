@@ -1,5 +1,4 @@
 -- The return is one law over what the calls before it ensure.
-use borrow.Author.Rules.{rules}
 use Rattle.sizes.specs.Sizes.{most_faces}
 use Rattle.happenings.specs.Noted.{fate_in}
 use Rattle.pending_table.specs.Places.View.{view_wide, view_said}

@@ -1,5 +1,4 @@
 -- By case: an out-record is still open, or all are Nacked and the requests end by Nack.
-use borrow.Author.Rules.{rules}
 use mathlib.Core.Path.{refl}
 use mathlib.Core.List.{[]}
 use Rattle.sizes.specs.Sizes.{most_faces}

@@ -1,5 +1,4 @@
 -- By what is asked again; what goes on is one law over what taking the Nack ensures.
-use borrow.Author.Rules.{rules}
 use Prim.Native.Nat.{ℕ}
 use mathlib.Core.Path.{refl, sym, ap, ◌∙◌}
 use mathlib.Core.List.{List}

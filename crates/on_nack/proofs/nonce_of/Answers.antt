@@ -1,5 +1,4 @@
 -- By case: there is no request, or it is told.
-use borrow.Author.Rules.{rules}
 use Rattle.on_nack.specs.Laws.Nacks.{nonce_is, nonce_none}
 use Rattle.on_nack.proofs.nonce_of.Goals as goal
 

@@ -1,14 +1,8 @@
 -- A walk over the set's faces, the lowest first: one law for the start, one for a turn, one for the end.
 use borrow.Author.Rules.{rules}
-use mathlib.Core.Path.{◌≡◌, refl, ◌∙◌}
+use mathlib.Core.Path.{refl, ◌∙◌}
 use native.Mathlib.Omega.{arith}
-use lib.ListN.{length}
-use Rattle.sizes.specs.Sizes.{most_faces}
-use Rattle.records.specs.Slots.{at_place}
-use Rattle.faces.specs.Laws.Walk.{Walks, walks, walk_less}
-use Rattle.pending_table.specs.Places.View.{view, place}
-use Rattle.sending.specs.Laws.Packing.{Sending}
-use Rattle.on_nack.specs.Places.Nacks.{nacks_on}
+use Rattle.faces.specs.Laws.Walk.{walks, walk_less}
 use Rattle.on_nack.specs.Laws.Nacks.{put_length, nacks_start, nacks_turn, nacks_end}
 use Rattle.on_nack.proofs.send_nacks.Goals as goal
 

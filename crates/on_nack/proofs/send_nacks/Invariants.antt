@@ -1,15 +1,12 @@
 -- A walk over the set's faces, the lowest first: one law for the start, one for a turn, one for the end.
-use borrow.Author.Rules.{rules}
-use mathlib.Core.Path.{◌≡◌, refl, ◌∙◌}
-use native.Mathlib.Omega.{arith}
+use mathlib.Core.Path.{◌≡◌}
 use lib.ListN.{length}
 use Rattle.sizes.specs.Sizes.{most_faces}
 use Rattle.records.specs.Slots.{at_place}
-use Rattle.faces.specs.Laws.Walk.{Walks, walks, walk_less}
+use Rattle.faces.specs.Laws.Walk.{Walks}
 use Rattle.pending_table.specs.Places.View.{view, place}
 use Rattle.sending.specs.Laws.Packing.{Sending}
 use Rattle.on_nack.specs.Places.Nacks.{nacks_on}
-use Rattle.on_nack.specs.Laws.Nacks.{put_length, nacks_start, nacks_turn, nacks_end}
 use Rattle.on_nack.proofs.send_nacks.Given as goal
 
 abbrev pub invariant-loop-face : goal.invariant-loop-face

@@ -1,5 +1,4 @@
 -- By case: out of scope, not on a point-to-point face, without such an out-record, or the out-record is marked.
-use borrow.Author.Rules.{rules}
 use mathlib.Core.Path.{refl}
 use Rattle.on_nack.specs.Laws.Turns.{turns_is}
 use Rattle.on_nack.specs.Laws.Goes.{nack_scope, nack_other, nack_stale, nack_marked}

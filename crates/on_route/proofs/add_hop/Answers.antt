@@ -1,5 +1,4 @@
 -- Refused where it begins, or on from the aged node by what the command makes of it.
-use borrow.Author.Rules.{rules}
 use mathlib.Core.Path.{sym, ◌∙◌}
 use Rattle.event.specs.Memory.{Memory, node_of}
 use Rattle.event.specs.Laws.Comes.{step_refused, step_on}

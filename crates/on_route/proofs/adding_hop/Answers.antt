@@ -1,5 +1,4 @@
 -- One law for each arm.
-use borrow.Author.Rules.{rules}
 use Rattle.on_route.specs.Laws.Routes.{add_refused, add_cost, add_none, add_done}
 use Rattle.on_route.proofs.adding_hop.Goals as goal
 

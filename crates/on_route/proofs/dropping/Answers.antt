@@ -1,5 +1,4 @@
 -- One law for each arm.
-use borrow.Author.Rules.{rules}
 use Rattle.on_route.specs.Laws.Routes.{drop_refused, drop_none, drop_done}
 use Rattle.on_route.proofs.dropping.Goals as goal
 

@@ -1,5 +1,4 @@
 -- One law for each arm.
-use borrow.Author.Rules.{rules}
 use Rattle.on_route.specs.Laws.Routes.{hop_refused, hop_none, hop_done}
 use Rattle.on_route.proofs.dropping_hop.Goals as goal
 

@@ -1,5 +1,4 @@
 -- One law for each arm.
-use borrow.Author.Rules.{rules}
 use Rattle.on_route.specs.Laws.Routes.{set_refused, set_unclassed, set_done, set_full}
 use Rattle.on_route.proofs.setting.Goals as goal
 

@@ -1,5 +1,4 @@
 -- What is packed is what `refuse` packs.
-use borrow.Author.Rules.{rules}
 use mathlib.Core.Path.{refl}
 use Rattle.opening.proofs.refused.Goals as goal
 

@@ -1,5 +1,4 @@
 -- By whether there is a route for the name.
-use borrow.Author.Rules.{rules}
 use mathlib.Core.Path.{sym, ◌∙◌}
 use Rattle.records.specs.Class.{class_number}
 use Rattle.sending.specs.Laws.Refusal.{class_in, class_none}

@@ -1,5 +1,4 @@
 -- By case: there is no row, there is no room, or the Nack is written and its row stored.
-use borrow.Author.Rules.{rules}
 use native.Mathlib.Omega.{arith}
 use Rattle.wire.specs.Laws.Write.{answer_next, answer_full}
 use Rattle.rules.specs.Outcome.{kind_number, nack}

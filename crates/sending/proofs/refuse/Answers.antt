@@ -1,5 +1,4 @@
 -- By whether the face is point-to-point.
-use borrow.Author.Rules.{rules}
 use mathlib.Core.Path.{sym, ◌∙◌}
 use Rattle.sending.specs.Laws.Refusal.{class_said, refuses_none, refuses_one}
 use Rattle.sending.proofs.refuse.Goals as goal

@@ -1,5 +1,4 @@
 -- By case: the set has no face, there is no room, or the Data is written and the rows of its copies are noted.
-use borrow.Author.Rules.{rules}
 use native.Mathlib.Omega.{arith}
 use Rattle.wire.specs.Laws.Write.{answer_next, answer_full}
 use Rattle.faces.specs.Laws.Walk.{walks}

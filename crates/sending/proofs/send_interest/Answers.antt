@@ -1,5 +1,4 @@
 -- By case: there is no room, or the packet is written and its row stored.
-use borrow.Author.Rules.{rules}
 use Rattle.wire.specs.Laws.Write.{answer_next, answer_full}
 use Rattle.rules.specs.Outcome.{kind_number, interest}
 use Rattle.sending.specs.Laws.One.{packs_full, packs_stored}

@@ -1,5 +1,4 @@
 -- One Nack put on an empty sheet.
-use borrow.Author.Rules.{rules}
 use Rattle.sending.specs.Laws.One.{packs_put}
 use Rattle.sending.proofs.send_nack.Goals as goal
 

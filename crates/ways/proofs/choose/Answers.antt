@@ -1,5 +1,4 @@
 -- By whether there is a hop without an out-record.
-use borrow.Author.Rules.{rules}
 use Rattle.sizes.specs.Sizes.{most_faces}
 use Rattle.pending_table.specs.Places.View.{view_wide}
 use Rattle.ways.specs.Laws.Next.{chosen_first, chosen_last}

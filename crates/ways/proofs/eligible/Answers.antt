@@ -1,5 +1,4 @@
 -- By whether it may leave on local faces alone.
-use borrow.Author.Rules.{rules}
 use Rattle.sizes.specs.Sizes.{most_faces}
 use Rattle.ways.specs.Laws.Eligible.{eligible_local, eligible_all}
 use Rattle.ways.proofs.eligible.Goals as goal

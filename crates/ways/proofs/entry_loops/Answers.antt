@@ -1,5 +1,4 @@
 -- By whether the entry counts.
-use borrow.Author.Rules.{rules}
 use Rattle.ways.specs.Laws.Loops.{entry_own, entry_other}
 use Rattle.ways.proofs.entry_loops.Goals as goal
 

@@ -1,5 +1,4 @@
 -- By the set of the faces that ask and are local.
-use borrow.Author.Rules.{rules}
 use Rattle.sizes.specs.Sizes.{most_faces}
 use Rattle.pending_table.specs.Places.View.{view_wide}
 use Rattle.ways.specs.Laws.Local.{local_held}

@@ -1,5 +1,4 @@
 -- By whether the face is point-to-point.
-use borrow.Author.Rules.{rules}
 use Rattle.ways.specs.Laws.Loops.{own_peer, own_other}
 use Rattle.ways.proofs.is_own.Goals as goal
 

@@ -1,5 +1,4 @@
 -- By whether there is a HopLimit.
-use borrow.Author.Rules.{rules}
 use Rattle.ways.specs.Laws.Hop.{spent_absent, spent_found}
 use Rattle.ways.proofs.is_spent.Goals as goal
 

@@ -1,5 +1,4 @@
 -- By whether there is a HopLimit.
-use borrow.Author.Rules.{rules}
 use Rattle.ways.specs.Laws.Hop.{zero_absent, zero_found}
 use Rattle.ways.proofs.is_zero.Goals as goal
 

@@ -1,5 +1,4 @@
 -- By the dead nonce list, and then by the entry.
-use borrow.Author.Rules.{rules}
 use Rattle.ways.specs.Laws.Loops.{loops_dead, loops_entry}
 use Rattle.ways.proofs.loops.Goals as goal
 

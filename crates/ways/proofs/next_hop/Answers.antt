@@ -1,5 +1,4 @@
 -- By whether the entry was sent under 100 ms ago, and then by what is chosen.
-use borrow.Author.Rules.{rules}
 use Rattle.ways.specs.Laws.Next.{resends_none, resends_next}
 use Rattle.rules.specs.Interest.{eligible}
 use Rattle.ways.proofs.next_hop.Goals as goal

@@ -1,5 +1,4 @@
 -- By whether the face is ad hoc.
-use borrow.Author.Rules.{rules}
 use Rattle.sizes.specs.Sizes.{most_faces}
 use Rattle.ways.specs.Laws.Eligible.{others_all, others_less}
 use Rattle.ways.proofs.others.Goals as goal

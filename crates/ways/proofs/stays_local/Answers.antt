@@ -1,5 +1,4 @@
 -- By the tests in order.
-use borrow.Author.Rules.{rules}
 use Rattle.ways.specs.Laws.Eligible.{stays_spent, stays_host, stays_not, stays_hop}
 use Rattle.ways.proofs.stays_local.Goals as goal
 
