@@ -96,4 +96,10 @@ module _ (p : Key → Bool) where
 -- FOR EVERY FACE
 pub conserved_face : (f faces least : ℕ) (es : List Event)
     → Accounted (of_face f) (history (step faces least) es (empty_node faces)) (run (step faces least) es (empty_node faces)).pending
-conserved_face f = conserved (of_face f)
+unfolding empty_node open_now
+conserved_face f faces least es =
+    omega (
+      arith,
+      run_balanced (of_face f) faces least es (empty_node faces) (empty_shaped faces),
+      ended_sum (of_face f) (history (step faces least) es (empty_node faces)),
+    )
