@@ -30,8 +30,8 @@ pub record Goes (k : ℕ) (x : Outcome) (r : Came) (n : Node) (o o' : Output) : 
 abbrev pub After : (Node → Outcome) → ℕ → Came → Both Memory Memory → Both Output Output → Type 0
 After x k r m o = Goes k (x (node_of m.entry)) r (node_of m.exit) o.entry o.exit
 
--- "time .. above 2^53", "output buffer under 8,192", "packet or name over its size": what is asked again, of a last time, a buffer's length, a
--- packet's and a name's
+-- "time .. above 2^53", "output buffer under 8,192", "packet or name over its size": what is asked again, of a last time, a buffer's
+-- length, a packet's and a name's
 unfoldable pub guard_says : ℕ → ℕ → ℕ → ℕ → Answer
 guard_says time room packet name =
     pick (ltb most_time time) Answer.Clock

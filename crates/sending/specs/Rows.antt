@@ -48,5 +48,6 @@ put s x =
 unfoldable pub copies_from : (ℕ → Bool) → List ℕ → List ℕ → ℕ → ℕ → List Send
 copies_from p words bytes h zero = []
 copies_from p words bytes h (suc k) =
-    pick (p h) (record { face = h; kind = dat; cls = class_of (get_or words (h - 1) 0); bytes = bytes } ∷ copies_from p words bytes (suc h) k)
+    pick (p h)
+    (record { face = h; kind = dat; cls = class_of (get_or words (h - 1) 0); bytes = bytes } ∷ copies_from p words bytes (suc h) k)
     (copies_from p words bytes (suc h) k)

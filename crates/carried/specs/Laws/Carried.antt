@@ -1,17 +1,14 @@
 -- DEMANDS 1, 2 AND 3 OF THE CODE (`carried`): any calls, from cleared tables, with any buffers, show the rules' moments.
 -- Assumes nothing.
-use Rattle.std.specs.Prelude.{ℕ, ◌+◌, ◌≤◌, ◌<◌, ◌≡◌, refl, Bool, true, false, ◌&&◌, List, [], ◌∷◌, ◌++◌, map, ltb, leb, eqb, length, get_or, take}
+use Rattle.std.specs.Prelude.{ℕ, ◌+◌, ◌≤◌, ◌<◌, ◌≡◌, refl, Bool, true, false, ◌&&◌, List, [], ◌∷◌, ◌++◌, map, ltb, leb, length, take}
 use Rattle.std.proofs.Common.{sym, ap, ◌∙◌, arith, zero-add, lt-ltb, leb-true, leb-false}
 use Rattle.std.proofs.lemmas.List.{length-map}
-use Rattle.std.proofs.lemmas.List.Edits.{sets}
-use Rattle.laws.specs.Pick.{pick}
 use Rattle.laws.specs.Laws.Pick.{pick_ind, pick_yes}
 use Rattle.laws.specs.Laws.Writes.{sets_back}
 use Rattle.sizes.specs.Sizes.{most_faces, least_buffer}
 use Rattle.records.specs.Happening.{Fate, Happening, opened, answered, nacked, expired, closed, self_met}
 use Rattle.records.specs.Rows.{row_of}
 use Rattle.records.specs.Laws.Each.{map_append}
-use Rattle.happenings.specs.Noted.{most_rows}
 use Rattle.rules.specs.Node.{Node, empty_node, Event}
 use Rattle.rules.specs.Outcome.{Outcome, quiet}
 use Rattle.rules.specs.Packed.{packed, packed_from}
@@ -21,7 +18,7 @@ use Rattle.event.specs.Comes.{Comes}
 use Rattle.history.specs.Lists.{All, nothing, both, one, how_many, Pairs}
 use Rattle.history.specs.Lists as lists
 use Rattle.history.specs.Key.{key_of, is_fate, of_face, counted, Accounted}
-use Rattle.history.specs.Moments.{Moment, moment, moments, told}
+use Rattle.history.specs.Moments.{moment, moments, told}
 use Rattle.history.specs.Sends.{filled_to, Filled}
 use Rattle.history.specs.Shape.{Shaped}
 use Rattle.history.specs.Laws.Filled.{sends_filled}

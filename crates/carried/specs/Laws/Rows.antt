@@ -1,10 +1,10 @@
 -- In any memory there is a row for each happening of any event (`step_rows`).
 -- Assumes nothing.
-use Rattle.std.specs.Prelude.{ℕ, ◌+◌, ◌≤◌, ◌≡◌, refl, length}
+use Rattle.std.specs.Prelude.{ℕ, ◌+◌, ◌≤◌, ◌≡◌, length}
 use Rattle.std.proofs.Math.Path.{sym}
-use Rattle.std.proofs.Common.{ap, ◌∙◌, length-append}
+use Rattle.std.proofs.Common.{length-append}
 use Rattle.std.proofs.Math.Bool.{Bool}
-use mathlib.Core.List.{List, [], ◌∷◌, ◌++◌, map}
+use mathlib.Core.List.{List, [], ◌∷◌, map}
 use Rattle.std.proofs.Math.Option.{some}
 use native.Mathlib.Omega.{arith}
 use Rattle.std.proofs.Math.ListN.{length-map}
@@ -13,7 +13,7 @@ use Rattle.sizes.specs.Sizes.{most_faces, most_entries, least_buffer}
 use Rattle.records.specs.Face.{is_peer}
 use Rattle.records.specs.Slots.{at_place, slot, is_some, Held, held, only, each}
 use Rattle.records.specs.Entry.{Request, Entry, matches, with_nack, with_sent}
-use Rattle.records.specs.Happening.{Fate, Happening, nacked, happens}
+use Rattle.records.specs.Happening.{Happening, nacked, happens}
 use Rattle.records.specs.Rows.{row_of}
 use Rattle.records.specs.Ageing.{expiries, aged_pending}
 use Rattle.records.specs.Closing.{closing_ends}
@@ -60,8 +60,8 @@ module _ (now : ℕ) (n : Node) (wide : (i : ℕ) (e : Entry) → at_place i n.p
 
   -- whatever an event comes to past ageing
   past_fits : (w : What) (o : Outcome) → Past most_faces now (aged now n) w o → Fits o.happenings
-  unfolding quiet nack_for served opens_entry asks_again renews sends_on satisfies data_ends each ends_by ends_by_nack peers_of with_nack with_sent
-      close_step aged
+  unfolding quiet nack_for served opens_entry asks_again renews sends_on satisfies data_ends each ends_by ends_by_nack peers_of with_nack
+      with_sent close_step aged
   past_fits w o (case.unread f a h) = none_fits
   past_fits w o (case.refused f a d) = none_fits
   past_fits w o (case.turned_away v a d) = none_fits

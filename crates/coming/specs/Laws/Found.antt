@@ -6,6 +6,7 @@ use Rattle.packets.specs.declared.bare.Interest.{Interest}
 use Rattle.coming.specs.Places.Found.{ask_found, arrival_named, arrival_found}
 
 -- an Interest is the same by both, where they are one name
-pub arrival_named_lem : (f : ℕ) (name bare : List ℕ) (i : Interest) → name ≡ name_of bare → arrival_named f name bare i ≡ arrival_found f bare i
+pub arrival_named_lem : (f : ℕ) (name bare : List ℕ) (i : Interest) → name ≡ name_of bare
+    → arrival_named f name bare i ≡ arrival_found f bare i
 unfolding arrival_named arrival_found ask_found
 arrival_named_lem f name bare i e = rw e

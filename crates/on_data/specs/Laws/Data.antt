@@ -72,8 +72,8 @@ module _ (s : Small) (face made : ℕ) (bare : List ℕ) (d : Data) (p g c n h :
     unfolding node_of offer_found
     brings_none r ss b z w =
         rw w
-        (goes_unsolicited (node_of (mem s k u l)) face (offer_found bare d) bare adhoc made _ _ rs rs' made' words copies (rw en at a) _ ss b
-        (sym ex ∙ z ∙ ey) refl refl refl)
+        (goes_unsolicited (node_of (mem s k u l)) face (offer_found bare d) bare adhoc made _ _ rs rs' made' words copies (rw en at a) _ ss
+        b (sym ex ∙ z ∙ ey) refl refl refl)
 
     -- a Data that is stored and ends requests
     pub brings_some : (r : Came) (kept : Kept) (fresh sent : ℕ) (k' u' ss ss' : Table) (b b' : List ℕ) → (x ≡ y → ⊥)

@@ -21,7 +21,8 @@ use Rattle.on_face.specs.Turns.{FacesBy}
 
 module _ (m : Memory) where
   -- opening is refused where the number is no face
-  pub open_bad : (f scope link : ℕ) (b : Bool) → b ≡ not (is_face most_faces f) → b ≡ bad_face most_faces (node_of m) (open_face f scope link)
+  pub open_bad : (f scope link : ℕ) (b : Bool) → b ≡ not (is_face most_faces f)
+      → b ≡ bad_face most_faces (node_of m) (open_face f scope link)
   unfolding face_in opens_face
   open_bad f scope link b e = e ∙ sym (bad_opening m (open_face f scope link) f refl refl)
 

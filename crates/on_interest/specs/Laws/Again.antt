@@ -108,7 +108,8 @@ module _ (m : Memory) (k f : ℕ) (bare name : List ℕ) (i : Interest) (j : ℕ
 
   -- the outcome, by the request that was made
   again : asks_again (node_of m).time (node_of m) (arrival_found f bare i) j x
-      ≡ sends_on (node_of m).time (node_of m) (arrival_found f bare i) j e' (resends (node_of m).time (node_of m) (arrival_found f bare i) e')
+      ≡ sends_on (node_of m).time (node_of m) (arrival_found f bare i) j e'
+      (resends (node_of m).time (node_of m) (arrival_found f bare i) e')
       (pick (is_some (slot f x.requests)) []
       (happens opened (node_of m).time x (record { face = f; what = request_with i.nonce expiry }) ∷ []))
   unfolding asks_again renews opens

@@ -100,7 +100,8 @@ module _ (m : Memory) (k room f : ℕ) (bare name : List ℕ) (i : Interest) (ow
 
   -- what follows the guard, by the name as it is found
   step_is : (z : Outcome) → pick (hop_is_zero (limit_of i.hop)) (quiet Answer.HopLimit (node_of m))
-      (pick (out_of_scope (node_of m) f name) (quiet Answer.Scope (node_of m)) (sought (node_of m).time (node_of m) (arrival_found f bare i)))
+      (pick (out_of_scope (node_of m) f name) (quiet Answer.Scope (node_of m))
+      (sought (node_of m).time (node_of m) (arrival_found f bare i)))
       ≡ z → x ≡ z
   unfolding interest_step sought arrival_found ask_found
   step_is z e = rw own at e

@@ -13,7 +13,8 @@ abbrev pub invariant-loop-face : goal.invariant-loop-face
 invariant-loop-face l =
     let o = at_place (place l.numbers l.s l.h) (view l.names l.heads l.recs l.numbers l.s) in
     Walks most_faces l.left l.face
-    × Sending l.initial.sends l.initial.out (nacks_on o l.set l.reason l.name l.prefix l.fresh l.class) (nacks_on o l.left l.reason l.name l.prefix l.fresh l.class)
+    × Sending l.initial.sends l.initial.out (nacks_on o l.set l.reason l.name l.prefix l.fresh l.class)
+    (nacks_on o l.left l.reason l.name l.prefix l.fresh l.class)
     (record { count = l.sent.count; at = l.sent.at; rows = l.sends; buffer = l.out })
     × (length l.out ≡ length l.initial.out)
 

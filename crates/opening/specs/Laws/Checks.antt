@@ -30,7 +30,8 @@ sized_holds t room packet name y w ey ew z =
 module _ (m : Memory) (room packet name : ℕ) (y : Answer) (w : ℕ) (ey : y ≡ guard_says m.small.time room packet name)
     (ew : w ≡ number_of y) (k : ℕ) (x : Outcome) where
   -- where nothing is against it the outcome goes on
-  pub guard_on : (r : Came) (n : Node) (o o' : Output) → w ≡ 0 → Goes k x r n o o' → Goes k (guarded room packet name (node_of m) x) r n o o'
+  pub guard_on : (r : Came) (n : Node) (o o' : Output) → w ≡ 0 → Goes k x r n o o'
+      → Goes k (guarded room packet name (node_of m) x) r n o o'
   unfolding node_of
   guard_on r n o o' z h = goes_by k _ x r n o o' (guard_goes (node_of m) x room packet name y ey (sym ew ∙ z)) h
 

@@ -50,8 +50,8 @@ module _ (now : ℕ) (n : Node) (a : Arrival) where
   routed_to none to w e q s = absurd (let z : ◌≡◌ {A = ℕ} 0 1 = cc in omega arith)
   routed_to (some r) to w e q s = let c : class_of w ≡ r.cls = rw q (s r refl) in rw (e, c)
 
-  module _ (w to : ℕ) (b : Bool) (q : b ≡ leb (room_taken (n.pending ++ (bare_entry most_faces [] false false (class_of w) ∷ []))) most_entries)
-    where
+  module _ (w to : ℕ) (b : Bool)
+      (q : b ≡ leb (room_taken (n.pending ++ (bare_entry most_faces [] false false (class_of w) ∷ []))) most_entries) where
       -- the room is that for the new entry
       same_room : room_taken (n.pending ++ (new_entry now n a (class_of w) to ∷ []))
           ≡ room_taken (n.pending ++ (bare_entry most_faces [] false false (class_of w) ∷ []))
@@ -149,5 +149,6 @@ module _ (m : Memory) (f : ℕ) (bare name : List ℕ) (i : Interest) (j may to 
 
 -- where there is room for an entry of a class a row is free
 pub row_free : (es : List Entry) (w : ℕ) (b : Bool)
-    → b ≡ leb (room_taken (es ++ (bare_entry most_faces [] false false (class_of w) ∷ []))) most_entries → b ≡ true → length es < most_entries
+    → b ≡ leb (room_taken (es ++ (bare_entry most_faces [] false false (class_of w) ∷ []))) most_entries → b ≡ true
+    → length es < most_entries
 row_free es w b q y = room_free es _ (leb-true _ most_entries (sym q ∙ y))

@@ -5,7 +5,9 @@ use Rattle.sending.specs.Places.Copies.{owed, Owes}
 use Rattle.sending.proofs.note_copies.Given as goal
 
 abbrev pub invariant-loop-face : goal.invariant-loop-face
-invariant-loop-face l = Walks most_faces l.left l.face × Owes l.len l.initial.sends (owed most_faces l.set l.classes) (owed most_faces l.left l.classes) l.count l.sends
+invariant-loop-face l =
+    Walks most_faces l.left l.face
+    × Owes l.len l.initial.sends (owed most_faces l.set l.classes) (owed most_faces l.left l.classes) l.count l.sends
 
 abbrev pub decreases-loop-face : goal.decreases-loop-face
 decreases-loop-face l = l.left

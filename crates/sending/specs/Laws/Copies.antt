@@ -35,7 +35,8 @@ copy_of bytes h = record { face = h.face; kind = dat; cls = class_of h.what; byt
 
 -- the copies from face i + 1 on are those of what is held there, where p holds of a face exactly where q holds of its digit
 copies_held : (p q : ℕ → Bool) (words bytes : List ℕ) (i m : ℕ) → ((j : ℕ) → i ≤ j → j < i + m → p (suc j) ≡ q j)
-    → copies_from p words bytes (suc i) m ≡ map (copy_of bytes) (held_from (suc i) (tab (λ j. pick (q j) (some (get_or words j 0)) none) i m))
+    → copies_from p words bytes (suc i) m
+    ≡ map (copy_of bytes) (held_from (suc i) (tab (λ j. pick (q j) (some (get_or words j 0)) none) i m))
 unfolding copies_from copy_of held_from tab pick
 copies_held p q words bytes i zero e = refl
 copies_held p q words bytes i (suc m) e =
@@ -107,10 +108,10 @@ module _ (n s f : ℕ) (words bytes : List ℕ) (a : Walks n s f) where
   unfolding owed
   copies_sent l len k rows rows' b b' (r, e, q) (c, t) =
       let g : ℕ → ℕ = λ i. get_or words i 0 in
-      let some-owed = walk_more a l refl g in
-      rw (room_yes bytes b _ (omega arith), copies_owed n s words bytes, some-owed)
-      (packs_copies bytes b b' len k rows rows' _ (held (slots_of n (minus_face n s f) g)) (omega arith) (rw some-owed at c)
-      (rw some-owed at t) e)
+      let some_owed = walk_more a l refl g in
+      rw (room_yes bytes b _ (omega arith), copies_owed n s words bytes, some_owed)
+      (packs_copies bytes b b' len k rows rows' _ (held (slots_of n (minus_face n s f) g)) (omega arith) (rw some_owed at c)
+      (rw some_owed at t) e)
 
 -- a walk over the faces of a set, with those of `left` still owed
 module _ (n set len : ℕ) (words : List ℕ) (rows : List (List ℕ)) where

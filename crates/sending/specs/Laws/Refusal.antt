@@ -54,7 +54,8 @@ module _ (name : List ℕ) (rs : List Route) (i : ℕ) (e : i ≡ longest_at nam
 
 -- the class word of the longest route for a name says its class
 pub class_said : (names heads costs : List (List ℕ)) (s : Routes) (name : List ℕ)
-    → class_of (class_number (route_class (longest name (view names heads costs s)))) ≡ route_class (longest name (view names heads costs s))
+    → class_of (class_number (route_class (longest name (view names heads costs s))))
+    ≡ route_class (longest name (view names heads costs s))
 unfolding route_class class_word
 class_said names heads costs s name = go (longest name (view names heads costs s)) refl
   where

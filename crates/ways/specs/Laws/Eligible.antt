@@ -36,7 +36,8 @@ module _ (hop : Option ℕ) (name : List ℕ) (l p : Bool) (a : p ≡ spent hop)
     unfolding stays_local
     stays_hop x r e d = rw (sym a ∙ q, sym b ∙ r, e) (d ∙ sym (and-true (under_localhop name)))
 
-module _ (m : ℕ) (fs : List (Option Face)) (f : ℕ) (d : Bool) (s : ℕ) (a : d ≡ is_ad_hoc_face fs f) (b : s ≡ faces_where m (is_open fs)) where
+module _ (m : ℕ) (fs : List (Option Face)) (f : ℕ) (d : Bool) (s : ℕ) (a : d ≡ is_ad_hoc_face fs f)
+    (b : s ≡ faces_where m (is_open fs)) where
   -- of an ad hoc face all the open faces are left
   pub others_all : d ≡ true → s ≡ faces_where m (λ h. is_open fs h && (not (eqb h f) || is_ad_hoc_face fs f))
   others_all e = b ∙ where_ext m _ _ (λ h _. rw (sym a ∙ e, or-true (not (eqb h f))) (sym (and-true (is_open fs h))))
@@ -71,4 +72,6 @@ module _ (m : ℕ) (n : Node) (a : Arrival) (l : Bool) (fs : List (Option Face))
     pub eligible_all : t ≡ false → s ≡ faces_where m (eligible n a l)
     eligible_all e =
         b ∙ where_ext m _ _ (λ h _.
-        sym (eligible_is h ∙ rw (sym c ∙ e, or-true (is_local_face fs h)) (and-true (is_open fs h && (not (eqb h f) || is_ad_hoc_face fs f)))))
+        sym
+        (eligible_is h
+        ∙ rw (sym c ∙ e, or-true (is_local_face fs h)) (and-true (is_open fs h && (not (eqb h f) || is_ad_hoc_face fs f)))))
