@@ -52,29 +52,29 @@ module _ (now : ℕ) (n : Node) (a : Arrival) where
 
   module _ (w to : ℕ) (b : Bool)
       (q : b ≡ leb (room_taken (n.pending ++ (bare_entry most_faces [] false false (class_of w) ∷ []))) most_entries) where
-      -- the room is that for the new entry
-      same_room : room_taken (n.pending ++ (new_entry now n a (class_of w) to ∷ []))
-          ≡ room_taken (n.pending ++ (bare_entry most_faces [] false false (class_of w) ∷ []))
-      unfolding new_entry bare_entry
-      same_room = room_class n.pending _ _ refl
+    -- the room is that for the new entry
+    same_room : room_taken (n.pending ++ (new_entry now n a (class_of w) to ∷ []))
+        ≡ room_taken (n.pending ++ (bare_entry most_faces [] false false (class_of w) ∷ []))
+    unfolding new_entry bare_entry
+    same_room = room_class n.pending _ _ refl
 
-      -- where there is room it opens
-      opens_room : b ≡ true → may_open now n a (class_of w) to ≡ opens_entry now n a (class_of w) to
-      unfolding may_open no_room
-      opens_room y =
-          let room = room_taken (n.pending ++ (bare_entry most_faces [] false false (class_of w) ∷ [])) in
-          rw same_room
-          (pick_no (ltb most_entries room) (nack_for Answer.NoRoom 50 n a.face a.ask) (opens_entry now n a (class_of w) to)
-          (le-ltb most_entries room (leb-true room most_entries (sym q ∙ y))))
+    -- where there is room it opens
+    opens_room : b ≡ true → may_open now n a (class_of w) to ≡ opens_entry now n a (class_of w) to
+    unfolding may_open no_room
+    opens_room y =
+        let room = room_taken (n.pending ++ (bare_entry most_faces [] false false (class_of w) ∷ [])) in
+        rw same_room
+        (pick_no (ltb most_entries room) (nack_for Answer.NoRoom 50 n a.face a.ask) (opens_entry now n a (class_of w) to)
+        (le-ltb most_entries room (leb-true room most_entries (sym q ∙ y))))
 
-      -- where there is none it is refused
-      opens_not : b ≡ false → may_open now n a (class_of w) to ≡ nack_for Answer.NoRoom 50 n a.face a.ask
-      unfolding may_open no_room
-      opens_not y =
-          let room = room_taken (n.pending ++ (bare_entry most_faces [] false false (class_of w) ∷ [])) in
-          rw same_room
-          (pick_yes (ltb most_entries room) (nack_for Answer.NoRoom 50 n a.face a.ask) (opens_entry now n a (class_of w) to)
-          (lt-ltb most_entries room (leb-false room most_entries (sym q ∙ y))))
+    -- where there is none it is refused
+    opens_not : b ≡ false → may_open now n a (class_of w) to ≡ nack_for Answer.NoRoom 50 n a.face a.ask
+    unfolding may_open no_room
+    opens_not y =
+        let room = room_taken (n.pending ++ (bare_entry most_faces [] false false (class_of w) ∷ [])) in
+        rw same_room
+        (pick_yes (ltb most_entries room) (nack_for Answer.NoRoom 50 n a.face a.ask) (opens_entry now n a (class_of w) to)
+        (lt-ltb most_entries room (leb-false room most_entries (sym q ∙ y))))
 
 module _ (m : Memory) (f : ℕ) (bare name : List ℕ) (i : Interest) (j may to : ℕ) (local : Bool)
     (el : local ≡ is_local_face (faces.view m.small.faces) f)
