@@ -4,8 +4,8 @@ use mathlib.Core.Path.{◌≡◌, sym, ◌∙◌}
 use contract.Lifetimes.{Lfts}
 use denote.Triple.Clauses.{AtExit}
 use borrow.Fn.Kinds.{Dens, ended_of, res_t}
-use Rattle.answers.proofs.number.Kinds as kinds
-use Rattle.answers.proofs.number.Reads as reads
+use Rattle.answers.proofs.U64FromAnswer.from.Kinds as kinds
+use Rattle.answers.proofs.U64FromAnswer.from.Reads as reads
 
 -- the number of an answer
 pub number_one : (κs : Lfts 0) (a : Dens κs kinds.ps) (x y : (res_t kinds.r κs).Denot) (s t : AtExit (ended_of 0 kinds.ps kinds.r) κs)

@@ -2,19 +2,21 @@
 -- over the memory that the call before it left, with any buffers.
 -- Assumes nothing.
 use Rattle.std.specs.Prelude.{ℕ, ◌≡◌, List, [], ◌∷◌, length}
+use Rattle.std.specs.Borrow.{Bor, MutBor}
 use contract.Lifetimes.{Lfts}
 use denote.Triple.Both.{Both}
 use denote.Triple.Clauses.{AtExit}
 use borrow.Fn.Kinds.{Dens, ended_of, res_t}
+use Rattle.rows.specs.Lent.{Lent}
 use Rattle.rules.specs.Node.{What, Event}
 use Rattle.rules.specs.Node as rules
 use Rattle.event.specs.declared.Came.{Came}
-use Rattle.event.specs.Memory.{Memory, Output}
+use Rattle.event.specs.declared.Memory.{Memory}
+use Rattle.event.specs.Memory.{Output, output}
 use Rattle.event.proofs.clear.Kinds as clear-kinds
 use Rattle.event.proofs.clear.Reads as clear_reads
 use Rattle.event.proofs.clock.Kinds as clock-kinds
 use Rattle.event.proofs.clock.Reads as clock-reads
-use Rattle.event.proofs.Unique as event
 use Rattle.on_face.proofs.open_face.Kinds as open-face-kinds
 use Rattle.on_face.proofs.open_face.Reads as open-face-reads
 use Rattle.on_face.proofs.close_face.Kinds as close-face-kinds
@@ -27,11 +29,8 @@ use Rattle.on_route.proofs.add_hop.Kinds as add-hop-kinds
 use Rattle.on_route.proofs.add_hop.Reads as add-hop-reads
 use Rattle.on_route.proofs.drop_hop.Kinds as drop-hop-kinds
 use Rattle.on_route.proofs.drop_hop.Reads as drop-hop-reads
-use Rattle.on_face.proofs.Unique as face
-use Rattle.on_route.proofs.Unique as route
 use Rattle.forwarder.proofs.packet.Kinds as packet-kinds
 use Rattle.forwarder.proofs.packet.Reads as packet-reads
-use Rattle.forwarder.proofs.Unique as forwarder
 
 -- a call: its time and what happened, the memory and the output before it and after it, and what it came to
 pub record Call : Type 0 where
@@ -45,78 +44,86 @@ pub record Call : Type 0 where
 abbrev pub event_of : Call → Event
 event_of c = record { time = c.time; room = length c.output.entry.buffer; what = c.what }
 
+-- what was lent behind `&mut`, from its two ends
+abbrev lent : {A : Type 0} → MutBor A → MutBor A → Lent A
+lent e x = record { entry = e.now; exit = x.now }
+
+-- what was lent behind `&`, from its two ends
+abbrev shown : {A : Type 0} → Bor A → Bor A → Lent A
+shown e x = record { entry = e.now; exit = x.now }
+
 -- a call of one of the eight functions, as its contract has it
 pub data Made : Call → Type 1 where
-  packet : (κs : Lfts 14) (a : Dens κs packet-kinds.ps) (x : (res_t packet-kinds.r κs).Denot)
-      (s : AtExit (ended_of 14 packet-kinds.ps packet-kinds.r) κs) → packet-reads.Post κs a x s
+  packet : (κs : Lfts 5) (a : Dens κs packet-kinds.ps) (x : (res_t packet-kinds.r κs).Denot)
+      (s : AtExit (ended_of 5 packet-kinds.ps packet-kinds.r) κs) → packet-reads.Post κs a x s
       → Made (record {
-        time = a.1.1.1.1.1.1.1.1.1.1.1.1.1.1.0;
-        what = forwarder.packet_what κs a;
-        memory = forwarder.packet_memory κs a x s;
-        output = forwarder.packet_output κs a s;
+        time = a.1.1.1.1.0;
+        what = rules.packet a.1.1.1.1.1.0 a.1.1.1.1.1.1.0.now;
+        memory = lent a.0 s.0;
+        output = output (lent a.1.0 s.1.0) (lent a.1.1.0 s.1.1.0) (lent a.1.1.1.0 s.1.1.1.0);
         came = x;
       })
-  clock : (κs : Lfts 13) (a : Dens κs clock-kinds.ps) (x : (res_t clock-kinds.r κs).Denot)
-      (s : AtExit (ended_of 13 clock-kinds.ps clock-kinds.r) κs) → clock-reads.Post κs a x s
+  clock : (κs : Lfts 4) (a : Dens κs clock-kinds.ps) (x : (res_t clock-kinds.r κs).Denot)
+      (s : AtExit (ended_of 4 clock-kinds.ps clock-kinds.r) κs) → clock-reads.Post κs a x s
       → Made (record {
-        time = a.1.1.1.1.1.1.1.1.1.1.1.1.1.1.0;
+        time = a.1.1.1.1.0;
         what = rules.clock;
-        memory = event.clock_memory κs a x s;
-        output = event.clock_output κs a s;
+        memory = lent a.0 s.0;
+        output = output (shown a.1.0 s.1.0) (shown a.1.1.0 s.1.1.0) (lent a.1.1.1.0 s.1.1.1.0);
         came = x;
       })
-  open_face : (κs : Lfts 13) (a : Dens κs open-face-kinds.ps) (x : (res_t open-face-kinds.r κs).Denot)
-      (s : AtExit (ended_of 13 open-face-kinds.ps open-face-kinds.r) κs) → open-face-reads.Post κs a x s
+  open_face : (κs : Lfts 4) (a : Dens κs open-face-kinds.ps) (x : (res_t open-face-kinds.r κs).Denot)
+      (s : AtExit (ended_of 4 open-face-kinds.ps open-face-kinds.r) κs) → open-face-reads.Post κs a x s
       → Made (record {
-        time = a.1.1.1.1.1.1.1.1.1.1.1.1.1.1.0;
-        what = face.open_face_what κs a;
-        memory = face.open_face_memory κs a x s;
-        output = face.open_face_output κs a s;
+        time = a.1.1.1.1.0;
+        what = rules.open_face a.1.1.1.1.1.0 a.1.1.1.1.1.1.0 a.1.1.1.1.1.1.1.0;
+        memory = lent a.0 s.0;
+        output = output (shown a.1.0 s.1.0) (shown a.1.1.0 s.1.1.0) (lent a.1.1.1.0 s.1.1.1.0);
         came = x;
       })
-  close_face : (κs : Lfts 13) (a : Dens κs close-face-kinds.ps) (x : (res_t close-face-kinds.r κs).Denot)
-      (s : AtExit (ended_of 13 close-face-kinds.ps close-face-kinds.r) κs) → close-face-reads.Post κs a x s
+  close_face : (κs : Lfts 4) (a : Dens κs close-face-kinds.ps) (x : (res_t close-face-kinds.r κs).Denot)
+      (s : AtExit (ended_of 4 close-face-kinds.ps close-face-kinds.r) κs) → close-face-reads.Post κs a x s
       → Made (record {
-        time = a.1.1.1.1.1.1.1.1.1.1.1.1.1.1.0;
-        what = face.close_face_what κs a;
-        memory = face.close_face_memory κs a x s;
-        output = face.close_face_output κs a s;
+        time = a.1.1.1.1.0;
+        what = rules.close_face a.1.1.1.1.1.0;
+        memory = lent a.0 s.0;
+        output = output (shown a.1.0 s.1.0) (shown a.1.1.0 s.1.1.0) (lent a.1.1.1.0 s.1.1.1.0);
         came = x;
       })
-  set_route : (κs : Lfts 14) (a : Dens κs set-route-kinds.ps) (x : (res_t set-route-kinds.r κs).Denot)
-      (s : AtExit (ended_of 14 set-route-kinds.ps set-route-kinds.r) κs) → set-route-reads.Post κs a x s
+  set_route : (κs : Lfts 5) (a : Dens κs set-route-kinds.ps) (x : (res_t set-route-kinds.r κs).Denot)
+      (s : AtExit (ended_of 5 set-route-kinds.ps set-route-kinds.r) κs) → set-route-reads.Post κs a x s
       → Made (record {
-        time = a.1.1.1.1.1.1.1.1.1.1.1.1.1.1.0;
-        what = route.set_route_what κs a;
-        memory = route.set_route_memory κs a x s;
-        output = route.set_route_output κs a s;
+        time = a.1.1.1.1.0;
+        what = rules.set_route a.1.1.1.1.1.0 a.1.1.1.1.1.1.0.now;
+        memory = lent a.0 s.0;
+        output = output (shown a.1.0 s.1.0) (shown a.1.1.0 s.1.1.0) (lent a.1.1.1.0 s.1.1.1.0);
         came = x;
       })
-  drop_route : (κs : Lfts 14) (a : Dens κs drop-route-kinds.ps) (x : (res_t drop-route-kinds.r κs).Denot)
-      (s : AtExit (ended_of 14 drop-route-kinds.ps drop-route-kinds.r) κs) → drop-route-reads.Post κs a x s
+  drop_route : (κs : Lfts 5) (a : Dens κs drop-route-kinds.ps) (x : (res_t drop-route-kinds.r κs).Denot)
+      (s : AtExit (ended_of 5 drop-route-kinds.ps drop-route-kinds.r) κs) → drop-route-reads.Post κs a x s
       → Made (record {
-        time = a.1.1.1.1.1.1.1.1.1.1.1.1.1.1.0;
-        what = route.drop_route_what κs a;
-        memory = route.drop_route_memory κs a x s;
-        output = route.drop_route_output κs a s;
+        time = a.1.1.1.1.0;
+        what = rules.drop_route a.1.1.1.1.1.0.now;
+        memory = lent a.0 s.0;
+        output = output (shown a.1.0 s.1.0) (shown a.1.1.0 s.1.1.0) (lent a.1.1.1.0 s.1.1.1.0);
         came = x;
       })
-  add_hop : (κs : Lfts 14) (a : Dens κs add-hop-kinds.ps) (x : (res_t add-hop-kinds.r κs).Denot)
-      (s : AtExit (ended_of 14 add-hop-kinds.ps add-hop-kinds.r) κs) → add-hop-reads.Post κs a x s
+  add_hop : (κs : Lfts 5) (a : Dens κs add-hop-kinds.ps) (x : (res_t add-hop-kinds.r κs).Denot)
+      (s : AtExit (ended_of 5 add-hop-kinds.ps add-hop-kinds.r) κs) → add-hop-reads.Post κs a x s
       → Made (record {
-        time = a.1.1.1.1.1.1.1.1.1.1.1.1.1.1.0;
-        what = route.add_hop_what κs a;
-        memory = route.add_hop_memory κs a x s;
-        output = route.add_hop_output κs a s;
+        time = a.1.1.1.1.0;
+        what = rules.add_hop a.1.1.1.1.1.0 a.1.1.1.1.1.1.0 a.1.1.1.1.1.1.1.0.now;
+        memory = lent a.0 s.0;
+        output = output (shown a.1.0 s.1.0) (shown a.1.1.0 s.1.1.0) (lent a.1.1.1.0 s.1.1.1.0);
         came = x;
       })
-  drop_hop : (κs : Lfts 14) (a : Dens κs drop-hop-kinds.ps) (x : (res_t drop-hop-kinds.r κs).Denot)
-      (s : AtExit (ended_of 14 drop-hop-kinds.ps drop-hop-kinds.r) κs) → drop-hop-reads.Post κs a x s
+  drop_hop : (κs : Lfts 5) (a : Dens κs drop-hop-kinds.ps) (x : (res_t drop-hop-kinds.r κs).Denot)
+      (s : AtExit (ended_of 5 drop-hop-kinds.ps drop-hop-kinds.r) κs) → drop-hop-reads.Post κs a x s
       → Made (record {
-        time = a.1.1.1.1.1.1.1.1.1.1.1.1.1.1.0;
-        what = route.drop_hop_what κs a;
-        memory = route.drop_hop_memory κs a x s;
-        output = route.drop_hop_output κs a s;
+        time = a.1.1.1.1.0;
+        what = rules.drop_hop a.1.1.1.1.1.0 a.1.1.1.1.1.1.0.now;
+        memory = lent a.0 s.0;
+        output = output (shown a.1.0 s.1.0) (shown a.1.1.0 s.1.1.0) (lent a.1.1.1.0 s.1.1.1.0);
         came = x;
       })
 
@@ -125,11 +132,11 @@ pub data Calls : Memory → List Call → Memory → Type 1 where
   done : {m : Memory} → Calls m [] m
   next : {c : Call} {cs : List Call} {m m' : Memory} → Made c → c.memory.entry ≡ m → Calls c.memory.exit cs m' → Calls m (c ∷ cs) m'
 
--- a memory whose small state the clearing function gave; the tables hold anything
+-- a memory that the clearing function left, whatever it held before
 pub record Cleared (m : Memory) : Type 1 where
-  pub κs : Lfts 0
+  pub κs : Lfts 1
   pub args : Dens κs clear-kinds.ps
   pub given : (res_t clear-kinds.r κs).Denot
-  pub ends : AtExit (ended_of 0 clear-kinds.ps clear-kinds.r) κs
+  pub ends : AtExit (ended_of 1 clear-kinds.ps clear-kinds.r) κs
   pub kept : clear_reads.Post κs args given ends
-  pub small : m.small ≡ given
+  pub left : m ≡ ends.0.now

@@ -11,7 +11,8 @@ use Rattle.happenings.specs.Noted.{most_rows}
 use Rattle.rules.specs.Packed.{Placed}
 use Rattle.rules.specs.Step.{paper_step}
 use Rattle.sending.specs.Rows.{send_row}
-use Rattle.event.specs.Memory.{Memory, node_of}
+use Rattle.event.specs.declared.Memory.{Memory}
+use Rattle.event.specs.Memory.{node_of}
 use Rattle.history.specs.Lists.{All, Some, how_many, Pairs}
 use Rattle.history.specs.Key.{Key, Accounted, is_of, of_face, open_now, stands}
 use Rattle.history.specs.Turns.{Legal}

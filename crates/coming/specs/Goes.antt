@@ -14,7 +14,8 @@ use Rattle.rules.specs.Outcome.{Outcome, quiet}
 use Rattle.rules.specs.Packed.{packed}
 use Rattle.sending.specs.Rows.{send_row}
 use Rattle.event.specs.declared.Came.{Came}
-use Rattle.event.specs.Memory.{Memory, Output, node_of}
+use Rattle.event.specs.declared.Memory.{Memory}
+use Rattle.event.specs.Memory.{Output, node_of}
 
 -- an outcome as code gives it, after k rows of happenings: the answer, the node, the sends as rows and in the buffer, and the happenings as
 -- rows, as far as there are rows; every other row and byte is as it was

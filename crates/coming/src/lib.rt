@@ -5,6 +5,7 @@ ghost use Rattle.std.specs.Prelude.{◌≡◌};
 ghost use Rattle.faces.specs.Places.View.{view};
 ghost use Rattle.rules.specs.Node.{Node};
 ghost use Rattle.rules.specs.Interest.{out_of_scope};
+ghost use Rattle.event.specs.Places.Begins.{allowed};
 ghost use Rattle.coming.specs.Goes.{guard_says};
 
 use answers::Answer;
@@ -12,33 +13,24 @@ use faces::Faces;
 use sizes::{LEAST_BUFFER, MOST_TIME, NAME, PACKET};
 
 // What makes a promise hold of any memory and any buffer, asked again: the last time, the buffer's length, the packet's and the name's.
-pub fn guard(time: u64, room: usize, packet: usize, name: usize) -> Answer
-    ensures { result ≡ guard_says time room packet name }
+pub fn guard(time: u64, room: usize, packet: usize, name: usize) -> Result<(), Answer>
+    ensures { result ≡ allowed (guard_says time room packet name) }
 {
     if MOST_TIME < time {
-        return Answer::Clock;
+        return Err(Answer::Clock);
     }
     if room < LEAST_BUFFER {
-        return Answer::SmallBuffer;
+        return Err(Answer::SmallBuffer);
     }
-    if PACKET < packet {
-        return Answer::TooLong;
+    if PACKET < packet || NAME < name {
+        return Err(Answer::TooLong);
     }
-    if NAME < name {
-        return Answer::TooLong;
-    }
-    Answer::Done
+    Ok(())
 }
 
 // "under /localhost from a non-local face"
 pub fn is_out_of_scope(faces: Faces, face: usize, name: &[u8]) -> bool
     ensures { (n : Node) → n.faces ≡ view faces → result ≡ out_of_scope n face name.now }
 {
-    if names::under_localhost(name) {
-        if faces.is_local(face) {
-            return false;
-        }
-        return true;
-    }
-    false
+    names::under_localhost(name) && !faces.is_local(face)
 }

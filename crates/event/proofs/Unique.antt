@@ -1,17 +1,23 @@
 -- One outcome for each input of each public function: any two that its contract admits are the same in everything that it speaks of, also
 -- from two memories that mean the same node. Rows and bits that mean no part of the node are not fixed.
 -- Assumes nothing.
-use mathlib.Core.Path.{◌≡◌, refl, sym, ◌∙◌}
+use mathlib.Core.Path.{◌≡◌, refl, sym, ap, ◌∙◌}
 use contract.Lifetimes.{Lfts}
+use Rattle.std.specs.Prelude.{ℕ, ◌≢◌, Result, Ok, Err, IfErr}
 use Rattle.std.specs.Borrow.{Bor, MutBor}
 use denote.Triple.Both.{Both}
 use denote.Triple.Clauses.{AtExit}
 use borrow.Fn.Kinds.{Dens, ended_of, res_t}
+use Rattle.answers.specs.declared.Answer.{Answer}
+use Rattle.answers.specs.Number.{number_of}
 use Rattle.rows.specs.Lent.{Lent}
 use Rattle.rules.specs.Node as rules
-use Rattle.event.specs.declared.Came.{Came}
-use Rattle.event.specs.Memory.{Memory, Output, memory, output, node_of}
+use Rattle.event.specs.declared.Memory.{Memory}
+use Rattle.event.specs.Memory.{Output, output, node_of}
+use Rattle.event.specs.Places.Begins.{began}
 use Rattle.event.specs.Laws.Same.{Same, stepped_same, begun_same}
+use Rattle.event.proofs.Memory.new.Kinds as new-kinds
+use Rattle.event.proofs.Memory.new.Reads as new_reads
 use Rattle.event.proofs.clear.Kinds as clear-kinds
 use Rattle.event.proofs.clear.Reads as clear_reads
 use Rattle.event.proofs.quiet.Kinds as quiet-kinds
@@ -23,11 +29,17 @@ use Rattle.event.proofs.begins.Reads as begins-reads
 use Rattle.event.proofs.clock.Kinds as clock-kinds
 use Rattle.event.proofs.clock.Reads as clock-reads
 
--- two small states of an empty node mean the same node, whatever the tables hold
-pub clear_one : (κs : Lfts 0) (a : Dens κs clear-kinds.ps) (x y : (res_t clear-kinds.r κs).Denot)
-    (s t : AtExit (ended_of 0 clear-kinds.ps clear-kinds.r) κs) → clear_reads.Post κs a x s → clear_reads.Post κs a y t
-    → (m p : Memory) → m.small ≡ x → p.small ≡ y → node_of m ≡ node_of p
-clear_one κs a x y s t p q m k e f = p m e ∙ sym (q k f)
+-- two new memories mean the same node
+pub new_one : (κs : Lfts 0) (a b : Dens κs new-kinds.ps) (x y : (res_t new-kinds.r κs).Denot)
+    (s t : AtExit (ended_of 0 new-kinds.ps new-kinds.r) κs) → new_reads.Post κs a x s → new_reads.Post κs b y t
+    → node_of x ≡ node_of y
+new_one κs a b x y s t p q = p ∙ sym q
+
+-- two memories that are cleared mean the same node, whatever they held
+pub clear_one : (κs : Lfts 1) (a b : Dens κs clear-kinds.ps) (x y : (res_t clear-kinds.r κs).Denot)
+    (s t : AtExit (ended_of 1 clear-kinds.ps clear-kinds.r) κs) → clear_reads.Post κs a x s → clear_reads.Post κs b y t
+    → node_of s.0.now ≡ node_of t.0.now
+clear_one κs a b x y s t p q = p ∙ sym q
 
 -- two answers with nothing sent are the same
 pub quiet_one : (κs : Lfts 0) (a : Dens κs quiet-kinds.ps) (x y : (res_t quiet-kinds.r κs).Denot)
@@ -47,95 +59,74 @@ lent e x = record { entry = e.now; exit = x.now }
 abbrev shown : {A : Type 0} → Bor A → Bor A → Lent A
 shown e x = record { entry = e.now; exit = x.now }
 
-module _ (κs : Lfts 13) where
+-- two results of the beginning of an event that come to the same are the same: no refusal has the number 0
+began_one : (x y : Result ℕ Answer) → IfErr x (λ a. number_of a ≢ 0) → IfErr y (λ a. number_of a ≢ 0)
+    → (began x).answer ≡ (began y).answer → (began x).made ≡ (began y).made → x ≡ y
+unfolding began
+began_one (Ok k) (Ok j) p q e m = ap (λ (n : ℕ). Ok n) m
+began_one (Ok k) (Err b) p q e m = absurd (q (ap number_of (sym e)))
+began_one (Err a) (Ok j) p q e m = absurd (p (ap number_of e))
+began_one (Err a) (Err b) p q e m = ap (λ (y : Answer). Err y) e
+
+module _ (κs : Lfts 4) where
   -- the memory of the beginning of an event at entry and at exit
-  abbrev begins_memory : Dens κs begins-kinds.ps → Came
-      → AtExit (ended_of 13 begins-kinds.ps begins-kinds.r) κs → Both Memory Memory
-  begins_memory a r s =
-      memory a.1.1.1.1.1.1.1.1.1.1.1.1.1.0 r.small
-      (shown a.0 s.0)
-      (shown a.1.0 s.1.0)
-      (shown a.1.1.0 s.1.1.0)
-      (shown a.1.1.1.0 s.1.1.1.0)
-      (lent a.1.1.1.1.0 s.1.1.1.1.0)
-      (shown a.1.1.1.1.1.0 s.1.1.1.1.1.0)
-      (shown a.1.1.1.1.1.1.0 s.1.1.1.1.1.1.0)
-      (shown a.1.1.1.1.1.1.1.0 s.1.1.1.1.1.1.1.0)
-      (shown a.1.1.1.1.1.1.1.1.0 s.1.1.1.1.1.1.1.1.0)
-      (lent a.1.1.1.1.1.1.1.1.1.0 s.1.1.1.1.1.1.1.1.1.0)
+  abbrev begins_memory : Dens κs begins-kinds.ps → AtExit (ended_of 4 begins-kinds.ps begins-kinds.r) κs → Both Memory Memory
+  begins_memory a s = lent a.0 s.0
 
   -- its output at entry and at exit
-  abbrev begins_output : Dens κs begins-kinds.ps → AtExit (ended_of 13 begins-kinds.ps begins-kinds.r) κs → Both Output Output
-  begins_output a s =
-      output
-      (shown a.1.1.1.1.1.1.1.1.1.1.0 s.1.1.1.1.1.1.1.1.1.1.0)
-      (shown a.1.1.1.1.1.1.1.1.1.1.1.0 s.1.1.1.1.1.1.1.1.1.1.1.0)
-      (lent a.1.1.1.1.1.1.1.1.1.1.1.1.0 s.1.1.1.1.1.1.1.1.1.1.1.1.0)
+  abbrev begins_output : Dens κs begins-kinds.ps → AtExit (ended_of 4 begins-kinds.ps begins-kinds.r) κs → Both Output Output
+  begins_output a s = output (shown a.1.0 s.1.0) (shown a.1.1.0 s.1.1.0) (lent a.1.1.1.0 s.1.1.1.0)
 
   -- the beginning of an event from two memories that mean the same node, with the same time, refusal and output
   pub begins_same : (a b : Dens κs begins-kinds.ps) (x y : (res_t begins-kinds.r κs).Denot)
-      (s t : AtExit (ended_of 13 begins-kinds.ps begins-kinds.r) κs)
-      → a.1.1.1.1.1.1.1.1.1.1.1.1.1.1.0 ≡ b.1.1.1.1.1.1.1.1.1.1.1.1.1.1.0
-      → a.1.1.1.1.1.1.1.1.1.1.1.1.1.1.1.0 ≡ b.1.1.1.1.1.1.1.1.1.1.1.1.1.1.1.0
-      → node_of (begins_memory a x s).entry ≡ node_of (begins_memory b y t).entry
+      (s t : AtExit (ended_of 4 begins-kinds.ps begins-kinds.r) κs)
+      → a.1.1.1.1.0 ≡ b.1.1.1.1.0 → a.1.1.1.1.1.0 ≡ b.1.1.1.1.1.0
+      → node_of (begins_memory a s).entry ≡ node_of (begins_memory b t).entry
       → (begins_output a s).entry ≡ (begins_output b t).entry
       → begins-reads.Post κs a x s → begins-reads.Post κs b y t
-      → Same x y (node_of (begins_memory a x s).exit) (node_of (begins_memory b y t).exit)
+      → (x ≡ y)
+      × Same (began x) (began y) (node_of (begins_memory a s).exit) (node_of (begins_memory b t).exit)
       (begins_output a s).exit (begins_output b t).exit
   begins_same a b x y s t et ec n o p q =
-      begun_same x y (begins_memory a x s) (begins_memory b y t) (begins_output a s) (begins_output b t) n o
-      _ _ _ _ et ec p q
+      let w = begun_same (began x) (began y) (begins_memory a s) (begins_memory b t) (begins_output a s) (begins_output b t) n o
+      _ _ _ _ et ec p.0 q.0 in
+      (began_one x y p.1 q.1 w.answer w.made, w)
 
   -- two outcomes of the beginning of an event
   pub begins_one : (a : Dens κs begins-kinds.ps) (x y : (res_t begins-kinds.r κs).Denot)
-      (s t : AtExit (ended_of 13 begins-kinds.ps begins-kinds.r) κs)
+      (s t : AtExit (ended_of 4 begins-kinds.ps begins-kinds.r) κs)
       → begins-reads.Post κs a x s → begins-reads.Post κs a y t
-      → Same x y (node_of (begins_memory a x s).exit) (node_of (begins_memory a y t).exit)
+      → (x ≡ y)
+      × Same (began x) (began y) (node_of (begins_memory a s).exit) (node_of (begins_memory a t).exit)
       (begins_output a s).exit (begins_output a t).exit
   begins_one a x y s t p q = begins_same a a x y s t refl refl refl refl p q
 
-module _ (κs : Lfts 13) where
+module _ (κs : Lfts 4) where
   -- the memory of a reading of the clock at entry and at exit
-  abbrev pub clock_memory : Dens κs clock-kinds.ps → Came
-      → AtExit (ended_of 13 clock-kinds.ps clock-kinds.r) κs → Both Memory Memory
-  clock_memory a r s =
-      memory a.1.1.1.1.1.1.1.1.1.1.1.1.1.0 r.small
-      (shown a.0 s.0)
-      (shown a.1.0 s.1.0)
-      (shown a.1.1.0 s.1.1.0)
-      (shown a.1.1.1.0 s.1.1.1.0)
-      (lent a.1.1.1.1.0 s.1.1.1.1.0)
-      (shown a.1.1.1.1.1.0 s.1.1.1.1.1.0)
-      (shown a.1.1.1.1.1.1.0 s.1.1.1.1.1.1.0)
-      (shown a.1.1.1.1.1.1.1.0 s.1.1.1.1.1.1.1.0)
-      (shown a.1.1.1.1.1.1.1.1.0 s.1.1.1.1.1.1.1.1.0)
-      (lent a.1.1.1.1.1.1.1.1.1.0 s.1.1.1.1.1.1.1.1.1.0)
+  abbrev pub clock_memory : Dens κs clock-kinds.ps → AtExit (ended_of 4 clock-kinds.ps clock-kinds.r) κs → Both Memory Memory
+  clock_memory a s = lent a.0 s.0
 
   -- its output at entry and at exit
-  abbrev pub clock_output : Dens κs clock-kinds.ps → AtExit (ended_of 13 clock-kinds.ps clock-kinds.r) κs → Both Output Output
-  clock_output a s =
-      output
-      (shown a.1.1.1.1.1.1.1.1.1.1.0 s.1.1.1.1.1.1.1.1.1.1.0)
-      (shown a.1.1.1.1.1.1.1.1.1.1.1.0 s.1.1.1.1.1.1.1.1.1.1.1.0)
-      (lent a.1.1.1.1.1.1.1.1.1.1.1.1.0 s.1.1.1.1.1.1.1.1.1.1.1.1.0)
+  abbrev pub clock_output : Dens κs clock-kinds.ps → AtExit (ended_of 4 clock-kinds.ps clock-kinds.r) κs → Both Output Output
+  clock_output a s = output (shown a.1.0 s.1.0) (shown a.1.1.0 s.1.1.0) (lent a.1.1.1.0 s.1.1.1.0)
 
   -- a reading of the clock from two memories that mean the same node, with the same time and output
   pub clock_same : (a b : Dens κs clock-kinds.ps) (x y : (res_t clock-kinds.r κs).Denot)
-      (s t : AtExit (ended_of 13 clock-kinds.ps clock-kinds.r) κs)
-      → a.1.1.1.1.1.1.1.1.1.1.1.1.1.1.0 ≡ b.1.1.1.1.1.1.1.1.1.1.1.1.1.1.0
-      → node_of (clock_memory a x s).entry ≡ node_of (clock_memory b y t).entry
+      (s t : AtExit (ended_of 4 clock-kinds.ps clock-kinds.r) κs)
+      → a.1.1.1.1.0 ≡ b.1.1.1.1.0
+      → node_of (clock_memory a s).entry ≡ node_of (clock_memory b t).entry
       → (clock_output a s).entry ≡ (clock_output b t).entry
       → clock-reads.Post κs a x s → clock-reads.Post κs b y t
-      → Same x y (node_of (clock_memory a x s).exit) (node_of (clock_memory b y t).exit)
+      → Same x y (node_of (clock_memory a s).exit) (node_of (clock_memory b t).exit)
       (clock_output a s).exit (clock_output b t).exit
   clock_same a b x y s t et n o p q =
-      stepped_same x y (clock_memory a x s) (clock_memory b y t) (clock_output a s) (clock_output b t) n o
+      stepped_same x y (clock_memory a s) (clock_memory b t) (clock_output a s) (clock_output b t) n o
       _ _ rules.clock rules.clock et refl p q
 
   -- two outcomes of a reading of the clock
   pub clock_one : (a : Dens κs clock-kinds.ps) (x y : (res_t clock-kinds.r κs).Denot)
-      (s t : AtExit (ended_of 13 clock-kinds.ps clock-kinds.r) κs)
+      (s t : AtExit (ended_of 4 clock-kinds.ps clock-kinds.r) κs)
       → clock-reads.Post κs a x s → clock-reads.Post κs a y t
-      → Same x y (node_of (clock_memory a x s).exit) (node_of (clock_memory a y t).exit)
+      → Same x y (node_of (clock_memory a s).exit) (node_of (clock_memory a t).exit)
       (clock_output a s).exit (clock_output a t).exit
   clock_one a x y s t p q = clock_same a a x y s t refl refl refl p q

@@ -12,7 +12,8 @@ use Rattle.rules.specs.Step.{step}
 use Rattle.event.specs.declared.Came.{Came}
 use Rattle.sending.specs.Rows.{send_row}
 use Rattle.event.specs.Begun.{begun}
-use Rattle.event.specs.Memory.{Memory, Output, node_of}
+use Rattle.event.specs.declared.Memory.{Memory}
+use Rattle.event.specs.Memory.{Output, node_of}
 
 -- an outcome as code gives it, where k rows of happenings were noted before: the answer, the node, the sends as rows and in the buffer,
 -- and the happenings as rows; every other row and byte is as it was

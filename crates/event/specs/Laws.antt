@@ -1,5 +1,6 @@
 pub mod Begun
 pub mod Comes
+pub mod Allowed
 pub mod Begins
 pub mod Same
 pub mod Faces

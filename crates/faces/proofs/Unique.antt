@@ -1,10 +1,11 @@
 -- One result for each input of each public function: any two that its contract admits are equal, and of faces have equal views. The scope
 -- and link digits of a closed face, and digits past the last face, are not fixed.
 -- Assumes nothing.
-use mathlib.Core.Path.{◌≡◌, refl, sym, ◌∙◌}
+use mathlib.Core.Path.{◌≡◌, refl, sym, ◌∙◌, ap}
 use contract.Lifetimes.{Lfts}
 use denote.Triple.Clauses.{AtExit}
 use borrow.Fn.Kinds.{Dens, ended_of, res_t}
+use Rattle.faces.specs.Laws.Gives.{gives_one}
 use Rattle.faces.specs.Places.View.{view}
 use Rattle.faces.proofs.has.Kinds as has-kinds
 use Rattle.faces.proofs.has.Reads as has-reads
@@ -44,6 +45,10 @@ use Rattle.faces.proofs.Faces.with_open.Kinds as with-open-kinds
 use Rattle.faces.proofs.Faces.with_open.Reads as with-open-reads
 use Rattle.faces.proofs.Faces.with_closed.Kinds as with-closed-kinds
 use Rattle.faces.proofs.Faces.with_closed.Reads as with-closed-reads
+use Rattle.faces.proofs.Walk.of.Kinds as of-kinds
+use Rattle.faces.proofs.Walk.of.Reads as of-reads
+use Rattle.faces.proofs.WalkIterator.next.Kinds as next-kinds
+use Rattle.faces.proofs.WalkIterator.next.Reads as next-reads
 use Rattle.faces.proofs.Same as same
 
 -- whether a set has a face
@@ -159,3 +164,15 @@ pub with_closed_one : (κs : Lfts 0) (a : Dens κs with-closed-kinds.ps) (x y : 
     (s t : AtExit (ended_of 0 with-closed-kinds.ps with-closed-kinds.r) κs)
     → with-closed-reads.Post κs a x s → with-closed-reads.Post κs a y t → view x ≡ view y
 with_closed_one κs a x y s t p q = same.with_closed_same κs a a x y s t refl refl p q
+
+-- a walk over the faces of a set
+pub of_one : (κs : Lfts 0) (a : Dens κs of-kinds.ps) (x y : (res_t of-kinds.r κs).Denot)
+    (s t : AtExit (ended_of 0 of-kinds.ps of-kinds.r) κs)
+    → of-reads.Post κs a x s → of-reads.Post κs a y t → x ≡ y
+of_one κs a x y s t p q = ap (λ l. record { left = l }) (p ∙ sym q)
+
+-- the next face of a walk, and what is left of it
+pub next_one : (κs : Lfts 1) (a : Dens κs next-kinds.ps) (x y : (res_t next-kinds.r κs).Denot)
+    (s t : AtExit (ended_of 1 next-kinds.ps next-kinds.r) κs)
+    → next-reads.Post κs a x s → next-reads.Post κs a y t → (x ≡ y) × (s.0.now.left ≡ t.0.now.left)
+next_one κs a x y s t p q = gives_one a.0.now x y p.0 q.0

@@ -4,3 +4,4 @@ pub mod Slot
 pub mod View
 pub mod Walk
 pub mod Where
+pub mod Gives

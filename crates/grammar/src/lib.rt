@@ -6,13 +6,24 @@
 pub mod order;
 pub mod types;
 
-ghost use Rattle.std.specs.Prelude.{◌≡◌, length};
-ghost use Rattle.grammar.specs.Table.{table, row_of, fits, other};
-ghost use Rattle.grammar.specs.Places.Table.{start};
+ghost use Rattle.std.specs.Prelude.{◌≡◌, length, drop};
+ghost use Rattle.std.specs.List.{find};
+ghost use Rattle.grammar.specs.Table.{table, hit, row_of, fits, other};
+ghost use Rattle.grammar.specs.Places.Table.{start, known_row};
 ghost use Rattle.grammar.specs.Walk.{said_with, judged, walked};
 ghost use Rattle.grammar.specs.Places.Walk.{found_in};
 
-use wire::{Cursor, Element, Read, Verdict};
+use wire::{Cursor, Verdict};
+
+// The rules of length: any; 0; 1; 4; 1, 2, 4 or 8.
+#[derive(Clone, Copy, Debug, PartialEq, Eq)]
+pub enum Rule {
+    Any,
+    Empty,
+    One,
+    Four,
+    Whole,
+}
 
 // A known element: its type, the parent that it stands in, its place in the order there, the rule of its length, and what it says:
 // that a packet which holds it is fine, or unsupported.
@@ -20,229 +31,221 @@ use wire::{Cursor, Element, Read, Verdict};
 pub struct Row {
     pub typ: u16,
     pub parent: u16,
-    pub order: u16,
-    pub rule: u16,
+    pub order: usize,
+    pub rule: Rule,
     pub says: Verdict,
 }
 
 // The parent of a packet as it came. The other parents are elements, by their types.
 pub const OUTER: u16 = 0;
 
-// The rules of length: any; 0; 1; 4; 1, 2, 4 or 8.
-const ANY: u16 = 0;
-
-const EMPTY: u16 = 1;
-
-const ONE: u16 = 2;
-
-const FOUR: u16 = 3;
-
-const WHOLE: u16 = 4;
-
-const ROWS: usize = 26;
-
-const TABLE: [Row; 26] = [
+// The table, in which the rows of a parent stand together. Each row is written out: a constant's value can call no function.
+static TABLE: [Row; 26] = [
     Row {
         typ: types::INTEREST,
         parent: OUTER,
-        order: order::INTEREST as u16,
-        rule: ANY,
+        order: order::INTEREST,
+        rule: Rule::Any,
         says: Verdict::Fine,
     },
     Row {
         typ: types::DATA,
         parent: OUTER,
-        order: order::DATA as u16,
-        rule: ANY,
+        order: order::DATA,
+        rule: Rule::Any,
         says: Verdict::Fine,
     },
     Row {
         typ: types::LP_PACKET,
         parent: OUTER,
-        order: order::LP_PACKET as u16,
-        rule: ANY,
+        order: order::LP_PACKET,
+        rule: Rule::Any,
         says: Verdict::Fine,
     },
     Row {
         typ: types::NAME,
         parent: types::INTEREST,
-        order: order::NAME as u16,
-        rule: ANY,
+        order: order::NAME,
+        rule: Rule::Any,
         says: Verdict::Fine,
     },
     Row {
         typ: types::CAN_BE_PREFIX,
         parent: types::INTEREST,
-        order: order::CAN_BE_PREFIX as u16,
-        rule: EMPTY,
+        order: order::CAN_BE_PREFIX,
+        rule: Rule::Empty,
         says: Verdict::Fine,
     },
     Row {
         typ: types::MUST_BE_FRESH,
         parent: types::INTEREST,
-        order: order::MUST_BE_FRESH as u16,
-        rule: EMPTY,
+        order: order::MUST_BE_FRESH,
+        rule: Rule::Empty,
         says: Verdict::Fine,
     },
     Row {
         typ: types::FORWARDING_HINT,
         parent: types::INTEREST,
-        order: order::FORWARDING_HINT as u16,
-        rule: ANY,
+        order: order::FORWARDING_HINT,
+        rule: Rule::Any,
         says: Verdict::Unsupported,
     },
     Row {
         typ: types::NONCE,
         parent: types::INTEREST,
-        order: order::NONCE as u16,
-        rule: FOUR,
+        order: order::NONCE,
+        rule: Rule::Four,
         says: Verdict::Fine,
     },
     Row {
         typ: types::LIFETIME,
         parent: types::INTEREST,
-        order: order::LIFETIME as u16,
-        rule: WHOLE,
+        order: order::LIFETIME,
+        rule: Rule::Whole,
         says: Verdict::Fine,
     },
     Row {
         typ: types::HOP_LIMIT,
         parent: types::INTEREST,
-        order: order::HOP_LIMIT as u16,
-        rule: ONE,
+        order: order::HOP_LIMIT,
+        rule: Rule::One,
         says: Verdict::Fine,
     },
     Row {
         typ: types::PARAMETERS,
         parent: types::INTEREST,
-        order: order::PARAMETERS as u16,
-        rule: ANY,
+        order: order::PARAMETERS,
+        rule: Rule::Any,
         says: Verdict::Unsupported,
     },
     Row {
         typ: types::INTEREST_SIGNATURE_INFO,
         parent: types::INTEREST,
-        order: order::INTEREST_SIGNATURE_INFO as u16,
-        rule: ANY,
+        order: order::INTEREST_SIGNATURE_INFO,
+        rule: Rule::Any,
         says: Verdict::Unsupported,
     },
     Row {
         typ: types::INTEREST_SIGNATURE_VALUE,
         parent: types::INTEREST,
-        order: order::INTEREST_SIGNATURE_VALUE as u16,
-        rule: ANY,
+        order: order::INTEREST_SIGNATURE_VALUE,
+        rule: Rule::Any,
         says: Verdict::Unsupported,
     },
     Row {
         typ: types::NAME,
         parent: types::DATA,
-        order: order::NAME as u16,
-        rule: ANY,
+        order: order::NAME,
+        rule: Rule::Any,
         says: Verdict::Fine,
     },
     Row {
         typ: types::META_INFO,
         parent: types::DATA,
-        order: order::META_INFO as u16,
-        rule: ANY,
+        order: order::META_INFO,
+        rule: Rule::Any,
         says: Verdict::Fine,
     },
     Row {
         typ: types::CONTENT,
         parent: types::DATA,
-        order: order::CONTENT as u16,
-        rule: ANY,
+        order: order::CONTENT,
+        rule: Rule::Any,
         says: Verdict::Fine,
     },
     Row {
         typ: types::SIGNATURE_INFO,
         parent: types::DATA,
-        order: order::SIGNATURE_INFO as u16,
-        rule: ANY,
+        order: order::SIGNATURE_INFO,
+        rule: Rule::Any,
         says: Verdict::Fine,
     },
     Row {
         typ: types::SIGNATURE_VALUE,
         parent: types::DATA,
-        order: order::SIGNATURE_VALUE as u16,
-        rule: ANY,
+        order: order::SIGNATURE_VALUE,
+        rule: Rule::Any,
         says: Verdict::Fine,
     },
     Row {
         typ: types::CONTENT_TYPE,
         parent: types::META_INFO,
-        order: order::CONTENT_TYPE as u16,
-        rule: ANY,
+        order: order::CONTENT_TYPE,
+        rule: Rule::Any,
         says: Verdict::Fine,
     },
     Row {
         typ: types::FRESHNESS,
         parent: types::META_INFO,
-        order: order::FRESHNESS as u16,
-        rule: WHOLE,
+        order: order::FRESHNESS,
+        rule: Rule::Whole,
         says: Verdict::Fine,
     },
     Row {
         typ: types::FINAL_BLOCK_ID,
         parent: types::META_INFO,
-        order: order::FINAL_BLOCK_ID as u16,
-        rule: ANY,
+        order: order::FINAL_BLOCK_ID,
+        rule: Rule::Any,
         says: Verdict::Fine,
     },
     Row {
         typ: types::INTEREST,
         parent: types::FRAGMENT,
-        order: order::INTEREST as u16,
-        rule: ANY,
+        order: order::INTEREST,
+        rule: Rule::Any,
         says: Verdict::Fine,
     },
     Row {
         typ: types::DATA,
         parent: types::FRAGMENT,
-        order: order::DATA as u16,
-        rule: ANY,
+        order: order::DATA,
+        rule: Rule::Any,
         says: Verdict::Fine,
     },
     Row {
         typ: types::NACK,
         parent: types::LP_PACKET,
-        order: order::NACK as u16,
-        rule: ANY,
+        order: order::NACK,
+        rule: Rule::Any,
         says: Verdict::Fine,
     },
     Row {
         typ: types::FRAGMENT,
         parent: types::LP_PACKET,
-        order: order::FRAGMENT as u16,
-        rule: ANY,
+        order: order::FRAGMENT,
+        rule: Rule::Any,
         says: Verdict::Fine,
     },
     Row {
         typ: types::NACK_REASON,
         parent: types::NACK,
-        order: order::NACK_REASON as u16,
-        rule: WHOLE,
+        order: order::NACK_REASON,
+        rule: Rule::Whole,
         says: Verdict::Fine,
     },
 ];
 
-// Where the value of an element stands in its parent. A value never stands at 0: at 0 means that there is none.
+// Where the value of an element stands in its parent.
 #[derive(Clone, Copy)]
 pub struct Place {
     pub at: usize,
     pub len: usize,
 }
 
-// What the elements of a parent said; the order of the last known one; and the place of each, by its order. The place of
-// order 0 is that of an element that was skipped, and is not read.
+// The orders that an element of any parent can have: 0, for those that are skipped, and up to 10 for those that are known.
+const KINDS: usize = 11;
+
+// What the elements of a parent said; the order of the last known one; and the place of each that is there, by its order. The
+// place of order 0 is that of an element that was skipped, and is not read. Where no known one came, `last` is 0, below all their orders.
 #[derive(Clone, Copy)]
 pub struct Found {
     pub said: Verdict,
     pub last: usize,
-    pub places: [Place; 11],
+    pub places: [Option<Place>; KINDS],
 }
 
 // What one more element makes of what was said and of the last order, and the order of its place, 0 where it has none.
+// A number also then: the definition `met` keeps a skipped element at order 0, so that the walk stores each without a test.
 #[derive(Clone, Copy)]
 pub struct Next {
     pub said: Verdict,
@@ -250,99 +253,61 @@ pub struct Next {
     pub order: usize,
 }
 
-// A row from which on all rows of a parent stand.
+// A row from which on all rows of a parent stand. The numbers are those of `start`; the law `look_up` says that nothing is missed.
+#[tactic(auto, unfolding(crate::specs::Places::Table::start, laws::specs::Pick::pick))]
 fn first_row(parent: u16) -> usize
     ensures { result ≡ start parent }
 {
-    if parent == types::INTEREST {
-        return 3;
+    match parent {
+        types::INTEREST => 3,
+        types::DATA => 13,
+        types::META_INFO => 18,
+        types::FRAGMENT => 21,
+        types::LP_PACKET => 23,
+        types::NACK => 25,
+        _ => 0,
     }
-    if parent == types::DATA {
-        return 13;
-    }
-    if parent == types::META_INFO {
-        return 18;
-    }
-    if parent == types::FRAGMENT {
-        return 21;
-    }
-    if parent == types::LP_PACKET {
-        return 23;
-    }
-    if parent == types::NACK {
-        return 25;
-    }
-    0
 }
 
-// A column as a number.
-fn number16(x: u16) -> u64
-    ensures { result ≡ x }
+// The rows of the table from the first of a parent on.
+fn rows_from(parent: u16) -> &'static [Row]
+    ensures { result.now ≡ drop (start parent) table }
 {
-    x as u64
+    &TABLE[first_row(parent)..]
 }
 
-// A column as a place.
-fn size16(x: u16) -> usize
-    ensures { result ≡ x }
+// The first of some rows that is that of a type in a parent.
+fn find_row(rows: &[Row], parent: u16, typ: u64) -> Option<Row>
+    ensures { result ≡ find (hit parent typ) rows.now }
 {
-    x as usize
+    rows.iter()
+        .copied()
+        .find(|row| row.parent == parent && u64::from(row.typ) == typ)
 }
 
-// The row of a type in a parent, or a row of order 0 where the type is not known there.
-pub fn row_of(parent: u16, typ: u64) -> Row
-    ensures { result ≡ row_of parent typ table }
+// The row of a type in a parent, or none where the type is not known there.
+pub fn row_of(parent: u16, typ: u64) -> Option<Row>
+    ensures { result ≡ known_row (row_of parent typ table) }
 {
-    // A constant is made anew wherever it is named: here once, and not in each turn.
-    let rows = TABLE;
-    let mut i = first_row(parent);
-    while i < ROWS {
-        let r = rows[i];
-        if number16(r.typ) == typ {
-            if r.parent == parent {
-                return r;
-            }
-        }
-        i += 1;
-    }
-    Row {
-        typ: 0,
-        parent: 0,
-        order: 0,
-        rule: 0,
-        says: Verdict::Fine,
-    }
+    find_row(rows_from(parent), parent, typ)
 }
 
 // Whether a value's length fits a rule.
-fn length_fits(rule: u16, len: usize) -> bool
+#[tactic(auto, unfolding(crate::specs::Table::fits, wire::specs::Number::is_whole, laws::specs::Pick::pick))]
+fn length_fits(rule: Rule, len: usize) -> bool
     ensures { result ≡ fits rule len }
 {
-    if rule == EMPTY {
-        return len == 0;
+    match rule {
+        Rule::Any => true,
+        Rule::Empty => len == 0,
+        Rule::One => len == 1,
+        Rule::Four => len == 4,
+        Rule::Whole => matches!(len, 1 | 2 | 4 | 8),
     }
-    if rule == ONE {
-        return len == 1;
-    }
-    if rule == FOUR {
-        return len == 4;
-    }
-    if rule == WHOLE {
-        if len == 1 {
-            return true;
-        }
-        if len == 2 {
-            return true;
-        }
-        if len == 4 {
-            return true;
-        }
-        return len == 8;
-    }
-    true
 }
 
 // What an element of a type that is not known in its parent says: fine, it is skipped; or malformed or unsupported.
+#[tactic(auto, unfolding(crate::specs::Table::other, crate::specs::Table::skipped_lp, crate::specs::Table::critical, laws::specs::Pick::pick))]
 fn other_says(parent: u16, typ: u64, last: usize) -> Verdict
     ensures { result ≡ other parent typ last }
 {
@@ -353,27 +318,19 @@ fn other_says(parent: u16, typ: u64, last: usize) -> Verdict
         if last == order::FRAGMENT {
             return Verdict::Malformed;
         }
-        if typ < 800 {
-            return Verdict::Unsupported;
-        }
-        if 959 < typ {
-            return Verdict::Unsupported;
-        }
-        if typ % 4 == 0 {
+        if types::FIRST_SKIPPED <= typ && typ <= types::LAST_SKIPPED && typ % 4 == 0 {
             return Verdict::Fine;
         }
         return Verdict::Unsupported;
     }
-    if typ <= 31 {
-        return Verdict::Malformed;
-    }
-    if typ % 2 == 1 {
+    if typ <= types::LAST_CRITICAL || typ % 2 == 1 {
         return Verdict::Malformed;
     }
     Verdict::Fine
 }
 
 // What was said, with what one more element says.
+#[tactic(auto, unfolding(crate::specs::Walk::said_with))]
 fn said_with(said: Verdict, more: Verdict) -> Verdict
     ensures { result ≡ said_with said more }
 {
@@ -384,47 +341,34 @@ fn said_with(said: Verdict, more: Verdict) -> Verdict
     }
 }
 
-// What is said with one more element of a parent, of a type and a value's length.
+// What is said with one more element of a parent, of a type and a value's length. The five arguments are those of `judged`.
 pub fn judge(parent: u16, said: Verdict, last: usize, typ: u64, len: usize) -> Next
     ensures { result ≡ judged parent said last typ len }
 {
-    if said.is_malformed() {
-        return Next {
-            said: Verdict::Malformed,
-            last: last,
-            order: 0,
-        };
-    }
-    let r = row_of(parent, typ);
-    let o = size16(r.order);
-    if o == 0 {
-        let n = said_with(said, other_says(parent, typ, last));
-        return Next {
-            said: n,
-            last: last,
-            order: 0,
-        };
-    }
-    if o <= last {
-        return Next {
-            said: Verdict::Malformed,
-            last: last,
-            order: 0,
-        };
-    }
-    if length_fits(r.rule, len) {
-        let mark = r.says;
-        let n = said_with(said, mark);
-        return Next {
-            said: n,
-            last: o,
-            order: o,
-        };
-    }
-    Next {
+    let malformed = Next {
         said: Verdict::Malformed,
-        last: last,
+        last,
         order: 0,
+    };
+    if said.is_malformed() {
+        return malformed;
+    }
+    match row_of(parent, typ) {
+        None => Next {
+            said: said_with(said, other_says(parent, typ, last)),
+            last,
+            order: 0,
+        },
+        Some(row) => {
+            if row.order <= last || !length_fits(row.rule, len) {
+                return malformed;
+            }
+            Next {
+                said: said_with(said, row.says),
+                last: row.order,
+                order: row.order,
+            }
+        }
     }
 }
 
@@ -432,35 +376,28 @@ pub fn judge(parent: u16, said: Verdict, last: usize, typ: u64, len: usize) -> N
 pub fn walk(s: &[u8], parent: u16) -> Found
     ensures { result ≡ found_in (length s.now) (walked parent s.now) }
 {
-    let mut at: usize = 0;
+    let mut cursor = Cursor { at: 0 };
     let mut said = Verdict::Fine;
-    let mut last: usize = 0;
-    let mut places = [Place { at: 0, len: 0 }; 11];
-    while at < s.len() {
-        match (Cursor { at: at }).element(s) {
-            Read::Bad => {
-                return Found {
-                    said: Verdict::Malformed,
-                    last: 0,
-                    places: [Place { at: 0, len: 0 }; 11],
-                };
-            }
-            Read::Is(e, next) => {
-                let v = judge(parent, said, last, e.typ, e.len);
-                said = v.said;
-                last = v.last;
-                let o = v.order;
-                places[o] = Place {
-                    at: e.at,
-                    len: e.len,
-                };
-                at = next.at;
-            }
-        }
+    let mut last = 0;
+    let mut places = [None; KINDS];
+    // A `while`, since an element says where the next one begins: the cursor goes in and comes back by value.
+    while cursor.at < s.len() {
+        let Some((e, next)) = cursor.element(s) else {
+            return Found {
+                said: Verdict::Malformed,
+                last: 0,
+                places: [None; KINDS],
+            };
+        };
+        let v = judge(parent, said, last, e.typ, e.len);
+        said = v.said;
+        last = v.last;
+        let order = v.order;
+        places[order] = Some(Place {
+            at: e.at,
+            len: e.len,
+        });
+        cursor = next;
     }
-    Found {
-        said: said,
-        last: last,
-        places: places,
-    }
+    Found { said, last, places }
 }

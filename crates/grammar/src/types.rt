@@ -44,3 +44,11 @@ pub const LP_PACKET: u16 = 0x64;
 pub const NACK: u16 = 0x0320;
 
 pub const NACK_REASON: u16 = 0x0321;
+
+// Types up to this one are critical, even or odd.
+pub const LAST_CRITICAL: u64 = 31;
+
+// In an LpPacket, types from one to the other that are divisible by 4 are skipped.
+pub const FIRST_SKIPPED: u64 = 800;
+
+pub const LAST_SKIPPED: u64 = 959;

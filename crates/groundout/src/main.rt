@@ -7,51 +7,71 @@
 ghost use Rattle.std.specs.Prelude.{◌<◌, length, IfOk};
 ghost use Rattle.groundout.specs.Places.Group.{FieldIn, Ahead};
 
-use names::Order;
+use names::FNV_START;
+use std::cmp::Ordering;
 use std::io;
-use std::io::{BufWriter, Read as _, Write};
-use wire::{Cursor, Number, Put, Read, Verdict};
+use std::io::{BufWriter, Read, Write};
+use wire::{Cursor, Verdict};
 
 // The most bytes of the input that are read.
 const MOST: u64 = 65536;
 
-// Where a field's bytes stand, or that there is none.
+// What is asked of one field.
 #[derive(Clone, Copy)]
-enum Field {
-    Bad,
-    Is(usize, usize),
+enum OfOne {
+    Number,
+    Element,
+    Components,
+    Scope,
+    Hash,
+    Written,
 }
 
-// Where the next group begins, or that this one is unreadable.
+// What is asked of two fields.
 #[derive(Clone, Copy)]
-enum Step {
-    Bad,
-    Next(usize),
+enum OfTwo {
+    Names,
+    Fingerprint,
 }
 
-// The field whose length stands at a place.
-fn field_at(s: &[u8], at: usize) -> Field
+// What a group asks.
+#[derive(Clone, Copy)]
+enum Kind {
+    One(OfOne),
+    Two(OfTwo),
+}
+
+// What a group asks whose first byte is b.
+fn kind_of(b: u8) -> Option<Kind> {
+    match b {
+        1 => Some(Kind::One(OfOne::Number)),
+        2 => Some(Kind::One(OfOne::Element)),
+        3 => Some(Kind::One(OfOne::Components)),
+        4 => Some(Kind::Two(OfTwo::Names)),
+        5 => Some(Kind::One(OfOne::Scope)),
+        6 => Some(Kind::Two(OfTwo::Fingerprint)),
+        7 => Some(Kind::One(OfOne::Hash)),
+        8 => Some(Kind::One(OfOne::Written)),
+        _ => None,
+    }
+}
+
+// Where the bytes of the field begin and end whose length stands at a place.
+fn field_at(s: &[u8], at: usize) -> Option<(usize, usize)>
     ensures { FieldIn (length s.now) at result }
 {
     if s.len() <= at {
-        return Field::Bad;
+        return None;
     }
     if s.len() - at < 2 {
-        return Field::Bad;
+        return None;
     }
-    let n = wide(s[at]) * 256 + wide(s[at + 1]);
+    let n = usize::from(u16::from_be_bytes([s[at], s[at + 1]]));
     let from = at + 2;
     if s.len() - from < n {
-        return Field::Bad;
+        return None;
     }
-    Field::Is(from, from + n)
-}
-
-// A byte as a number.
-fn wide(b: u8) -> usize
-    ensures { result < 256 }
-{
-    b as usize
+    Some((from, from + n))
 }
 
 // A number after a space.
@@ -59,45 +79,35 @@ fn word(out: &mut impl Write, n: u64) -> io::Result<()> {
     write!(out, " {n}")
 }
 
-// The end of a line.
-fn line(out: &mut impl Write) -> io::Result<()> {
-    out.write_all(b"\n")
-}
-
 // The word of a fault.
 fn bad(out: &mut impl Write) -> io::Result<()> {
-    out.write_all(b" bad")
+    write!(out, " bad")
 }
 
 // 1: the number at the start.
 fn number(out: &mut impl Write, s: &[u8]) -> io::Result<()> {
-    match (Cursor { at: 0 }).number(s) {
-        Number::Bad => bad(out),
-        Number::Is(v, next) => {
-            word(out, v)?;
-            word(out, next.at as u64)
-        }
-    }
+    let Some((v, next)) = (Cursor { at: 0 }).number(s) else {
+        return bad(out);
+    };
+    let end = next.at;
+    write!(out, " {v} {end}")
 }
 
 // 2: the element at the start.
 fn element(out: &mut impl Write, s: &[u8]) -> io::Result<()> {
-    match (Cursor { at: 0 }).element(s) {
-        Read::Bad => bad(out),
-        Read::Is(e, next) => {
-            word(out, e.typ)?;
-            word(out, e.at as u64)?;
-            word(out, e.len as u64)?;
-            word(out, next.at as u64)
-        }
-    }
+    let Some((e, next)) = (Cursor { at: 0 }).element(s) else {
+        return bad(out);
+    };
+    word(out, e.typ)?;
+    word(out, e.at as u64)?;
+    word(out, e.len as u64)?;
+    word(out, next.at as u64)
 }
 
-// 3: what a name's bytes say.
+// 3: what a name's bytes say: 5 malformed, 6 unsupported, or 0 fine, and how many components they are.
 fn components(out: &mut impl Write, s: &[u8]) -> io::Result<()> {
     let c = names::count_components(s);
-    let said = c.said;
-    match said {
+    match c.said {
         Verdict::Malformed => word(out, 5),
         Verdict::Unsupported => word(out, 6),
         Verdict::Fine => {
@@ -107,138 +117,116 @@ fn components(out: &mut impl Write, s: &[u8]) -> io::Result<()> {
     }
 }
 
-// A test as 1 or 0.
-fn flag(out: &mut impl Write, b: bool) -> io::Result<()> {
-    if b { word(out, 1) } else { word(out, 0) }
-}
-
-// 4: two names.
+// 4: two names: whether they are the same, whether the first is a prefix of the second, and their order,
+// 0 before, 1 the same, 2 after.
 fn pair(out: &mut impl Write, a: &[u8], b: &[u8]) -> io::Result<()> {
-    flag(out, names::same(a, b))?;
-    flag(out, names::is_prefix(a, b))?;
+    word(out, u64::from(names::same(a, b)))?;
+    word(out, u64::from(names::is_prefix(a, b)))?;
     match names::compare(a, b) {
-        Order::Before => word(out, 0),
-        Order::Same => word(out, 1),
-        Order::After => word(out, 2),
+        Ordering::Less => word(out, 0),
+        Ordering::Equal => word(out, 1),
+        Ordering::Greater => word(out, 2),
     }
 }
 
-// 5: a name's scope.
+// 5: a name's scope: 1 under /localhost, 2 under /localhop, else 0.
 fn scope(out: &mut impl Write, s: &[u8]) -> io::Result<()> {
     if names::under_localhost(s) {
-        return word(out, 1);
+        word(out, 1)
+    } else if names::under_localhop(s) {
+        word(out, 2)
+    } else {
+        word(out, 0)
     }
-    if names::under_localhop(s) {
-        return word(out, 2);
-    }
-    word(out, 0)
 }
 
-// The number that the first n bytes of s make.
+// 2^56: the values of the seven bytes that stay where one more follows.
+const SEVEN_BYTES: u64 = 72057594037927936;
+
+// The number that the first n bytes of s make, the highest first, modulo 2^64.
 fn big(s: &[u8], n: usize) -> u64 {
-    let mut v: u64 = 0;
-    for b in s.iter().take(n) {
-        v = v % 72057594037927936 * 256 + wide(*b) as u64;
-    }
-    v
+    s.iter()
+        .take(n)
+        .fold(0, |v, b| v % SEVEN_BYTES * 256 + u64::from(*b))
 }
 
 // 6: the fingerprint of a name and a nonce.
 fn fingerprint(out: &mut impl Write, name: &[u8], nonce: &[u8]) -> io::Result<()> {
-    word(
-        out,
-        names::fingerprint_from(14695981039346656037, name, big(nonce, 4)),
-    )
-}
-
-// The first n bytes of s.
-fn show(out: &mut impl Write, s: &[u8], n: usize) -> io::Result<()> {
-    for b in s.iter().take(n) {
-        word(out, wide(*b) as u64)?;
-    }
-    Ok(())
+    word(out, names::fingerprint_from(FNV_START, name, big(nonce, 4)))
 }
 
 // 8: the bytes of a number in its shortest form.
 fn written(out: &mut impl Write, s: &[u8]) -> io::Result<()> {
     let mut buf = [0u8; 9];
-    match wire::put_number(&mut buf, 0, big(s, 8)) {
-        Put::Full => bad(out),
-        Put::Next(n) => show(out, &buf, n),
+    let Some(n) = wire::put_number(&mut buf, 0, big(s, 8)) else {
+        return bad(out);
+    };
+    for b in buf.iter().take(n) {
+        word(out, u64::from(*b))?;
+    }
+    Ok(())
+}
+
+// The answer to what is asked of one field.
+fn one(out: &mut impl Write, asked: OfOne, s: &[u8]) -> io::Result<()> {
+    match asked {
+        OfOne::Number => number(out, s),
+        OfOne::Element => element(out, s),
+        OfOne::Components => components(out, s),
+        OfOne::Scope => scope(out, s),
+        OfOne::Hash => word(out, names::fnv_from(FNV_START, s)),
+        OfOne::Written => written(out, s),
     }
 }
 
-// A group of one field.
-fn one(out: &mut impl Write, what: u8, s: &[u8]) -> io::Result<()> {
-    write!(out, "{what}")?;
-    match what {
-        1 => number(out, s)?,
-        2 => element(out, s)?,
-        3 => components(out, s)?,
-        5 => scope(out, s)?,
-        7 => word(out, names::fnv_from(14695981039346656037, s))?,
-        8 => written(out, s)?,
-        _ => (),
+// The answer to what is asked of two fields.
+fn two(out: &mut impl Write, asked: OfTwo, a: &[u8], b: &[u8]) -> io::Result<()> {
+    match asked {
+        OfTwo::Names => pair(out, a, b),
+        OfTwo::Fingerprint => fingerprint(out, a, b),
     }
-    line(out)
 }
 
-// A group of two fields.
-fn two(out: &mut impl Write, what: u8, a: &[u8], b: &[u8]) -> io::Result<()> {
-    write!(out, "{what}")?;
-    if what == 4 {
-        pair(out, a, b)?;
-    } else {
-        fingerprint(out, a, b)?;
-    }
-    line(out)
-}
-
-// The group at a place.
-fn group(out: &mut impl Write, s: &[u8], at: usize) -> io::Result<Step>
+// The group at a place: its line, and where the next group begins, or nothing where it is unreadable.
+fn group(out: &mut impl Write, s: &[u8], at: usize) -> io::Result<Option<usize>>
     requires { at < length s.now }
     ensures { IfOk result (Ahead (length s.now) at) }
 {
     let what = s[at];
-    if what < 1 {
-        return Ok(Step::Bad);
-    }
-    if 8 < what {
-        return Ok(Step::Bad);
-    }
-    match field_at(s, at + 1) {
-        Field::Bad => Ok(Step::Bad),
-        Field::Is(a, b) => {
-            if what == 4 || what == 6 {
-                match field_at(s, b) {
-                    Field::Bad => Ok(Step::Bad),
-                    Field::Is(c, d) => {
-                        two(out, what, &s[a..b], &s[c..d])?;
-                        Ok(Step::Next(d))
-                    }
-                }
-            } else {
-                one(out, what, &s[a..b])?;
-                Ok(Step::Next(b))
-            }
+    let Some(kind) = kind_of(what) else {
+        return Ok(None);
+    };
+    let Some((a, b)) = field_at(s, at + 1) else {
+        return Ok(None);
+    };
+    let end = match kind {
+        Kind::One(asked) => {
+            write!(out, "{what}")?;
+            one(out, asked, &s[a..b])?;
+            b
         }
-    }
+        Kind::Two(asked) => {
+            let Some((c, d)) = field_at(s, b) else {
+                return Ok(None);
+            };
+            write!(out, "{what}")?;
+            two(out, asked, &s[a..b], &s[c..d])?;
+            d
+        }
+    };
+    writeln!(out)?;
+    Ok(Some(end))
 }
 
 // The groups of the input, one after the other.
 fn groups(out: &mut impl Write, s: &[u8]) -> io::Result<()> {
-    let mut at: usize = 0;
+    let mut at = 0;
+    // A `while`, since a group begins where the one before it ends.
     while at < s.len() {
-        match group(out, s, at)? {
-            Step::Bad => {
-                out.write_all(b"bad")?;
-                word(out, at as u64)?;
-                return line(out);
-            }
-            Step::Next(n) => {
-                at = n;
-            }
-        }
+        let Some(next) = group(out, s, at)? else {
+            return writeln!(out, "bad {at}");
+        };
+        at = next;
     }
     Ok(())
 }

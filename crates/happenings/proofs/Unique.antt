@@ -6,8 +6,10 @@ use denote.Triple.Clauses.{AtExit}
 use borrow.Fn.Kinds.{Dens, ended_of, res_t}
 use Rattle.happenings.specs.Noted.{most_rows}
 use Rattle.happenings.specs.Laws.Noted.{notes_one}
-use Rattle.happenings.proofs.number.Kinds as number-kinds
-use Rattle.happenings.proofs.number.Reads as number-reads
+use Rattle.happenings.proofs.U64FromFate.from.Kinds as number-kinds
+use Rattle.happenings.proofs.U64FromFate.from.Reads as number-reads
+use Rattle.happenings.proofs.note_word.Kinds as word-kinds
+use Rattle.happenings.proofs.note_word.Reads as word-reads
 use Rattle.happenings.proofs.note.Kinds as note-kinds
 use Rattle.happenings.proofs.note.Reads as note-reads
 
@@ -22,3 +24,9 @@ pub note_one : (κs : Lfts 1) (a : Dens κs note-kinds.ps) (x y : (res_t note-ki
     (s t : AtExit (ended_of 1 note-kinds.ps note-kinds.r) κs)
     → note-reads.Post κs a x s → note-reads.Post κs a y t → (x ≡ y) × (s.0.now ≡ t.0.now)
 note_one κs a x y s t p q = notes_one most_rows p q
+
+-- a row noted with the word of a fate
+pub note_word_one : (κs : Lfts 1) (a : Dens κs word-kinds.ps) (x y : (res_t word-kinds.r κs).Denot)
+    (s t : AtExit (ended_of 1 word-kinds.ps word-kinds.r) κs)
+    → word-reads.Post κs a x s → word-reads.Post κs a y t → (x ≡ y) × (s.0.now ≡ t.0.now)
+note_word_one κs a x y s t p q = notes_one most_rows p q

@@ -1,3 +1,4 @@
+pub mod Some
 pub mod Pick
 pub mod Loop
 pub mod Rows

@@ -7,7 +7,7 @@ use contract.Lifetimes.{Lfts}
 use denote.Triple.Clauses.{AtExit}
 use borrow.Fn.Kinds.{Dens, ended_of, res_t}
 use Rattle.lines.specs.Decimal.{decimal}
-use Rattle.lines.specs.Lines.{event_line, send_line, bad_line, total_of, too_long}
+use Rattle.lines.specs.Lines.{event_line, send_line, bad_line, total_line, too_long}
 use Rattle.lines.specs.Places.Put.{Placed, placed, put}
 use Rattle.lines.proofs.put_decimal.Kinds as decimal-kinds
 use Rattle.lines.proofs.put_decimal.Reads as decimal-reads
@@ -111,17 +111,11 @@ put_bad_line_same κs a b x y s t e f h0 p q =
 -- `put_total_line` has the same outcome from the same bytes, place and numbers
 pub put_total_line_same : (κs : Lfts 1) (a b : Dens κs total-kinds.ps) (x y : (res_t total-kinds.r κs).Denot)
     (s t : AtExit (ended_of 1 total-kinds.ps total-kinds.r) κs)
-    → a.0.now ≡ b.0.now → a.1.0 ≡ b.1.0 → a.1.1.0 ≡ b.1.1.0 → a.1.1.1.0 ≡ b.1.1.1.0
-    → a.1.1.1.1.0 ≡ b.1.1.1.1.0 → a.1.1.1.1.1.0 ≡ b.1.1.1.1.1.0 → a.1.1.1.1.1.1.0 ≡ b.1.1.1.1.1.1.0
-    → a.1.1.1.1.1.1.1.0 ≡ b.1.1.1.1.1.1.1.0 → a.1.1.1.1.1.1.1.1.0 ≡ b.1.1.1.1.1.1.1.1.0
+    → a.0.now ≡ b.0.now → a.1.0 ≡ b.1.0 → a.1.1.0 ≡ b.1.1.0
     → total-reads.Post κs a x s → total-reads.Post κs b y t → (x ≡ y) × (s.0.now ≡ t.0.now)
-put_total_line_same κs a b x y s t e f h0 h1 h2 h3 h4 h5 h6 p q =
-    let u = a.1.1 in
-    let v = b.1.1 in
-    let w = v.1.1.1 in
-    let z = u.1.1.1 in
-    let same : put b.0.now b.1.0 (total_of v.0 v.1.0 v.1.1.0 w.0 w.1.0 w.1.1.0 w.1.1.1.0)
-    ≡ put a.0.now a.1.0 (total_of u.0 u.1.0 u.1.1.0 z.0 z.1.0 z.1.1.0 z.1.1.1.0) = cc in
+put_total_line_same κs a b x y s t e f h0 p q =
+    let same : put b.0.now b.1.0 (total_line b.1.1.0)
+    ≡ put a.0.now a.1.0 (total_line a.1.1.0) = cc in
     one_placed p (q ∙ same)
 
 -- `put_too_long` has the same outcome from the same bytes and place

@@ -2,6 +2,7 @@
 -- Assumes nothing.
 use Rattle.std.specs.Prelude.{ℕ, List, [], ◌∷◌, ◌++◌}
 use Rattle.lines.specs.Decimal.{decimal}
+use Rattle.lines.specs.declared.Totals.{Totals}
 
 -- a number after a space
 unfoldable pub spaced : ℕ → List ℕ
@@ -35,16 +36,6 @@ send_line face kind len = mark ++ spaced face ++ spaced kind ++ spaced len ++ ne
 unfoldable pub bad_line : ℕ → List ℕ
 bad_line offset = bad_word ++ spaced offset ++ newline
 
--- the seven numbers of the last line
-pub record Totals : Type 0 where
-  pub opened : ℕ
-  pub answered : ℕ
-  pub nacked : ℕ
-  pub expired : ℕ
-  pub closed : ℕ
-  pub self_met : ℕ
-  pub still_open : ℕ
-
 -- the seven numbers in the order in which they are printed
 abbrev pub totals : ℕ → ℕ → ℕ → ℕ → ℕ → ℕ → ℕ → Totals
 totals a b c d e f g =
@@ -55,10 +46,6 @@ unfoldable pub total_line : Totals → List ℕ
 total_line t =
     total_word ++ spaced t.opened ++ spaced t.answered ++ spaced t.nacked ++ spaced t.expired
     ++ spaced t.closed ++ spaced t.self_met ++ spaced t.still_open ++ newline
-
--- the last line with its seven numbers in the order in which they are printed
-abbrev pub total_of : ℕ → ℕ → ℕ → ℕ → ℕ → ℕ → ℕ → List ℕ
-total_of a b c d e f g = total_line (totals a b c d e f g)
 
 -- "a longer tape prints `too long` only"
 unfoldable pub too_long : List ℕ

@@ -5,7 +5,10 @@ ghost use Rattle.names.specs.Fingerprint.{stepped, fnv, fingerprint};
 // "start at 14695981039346656037"
 pub const FNV_START: u64 = 14695981039346656037;
 
-// a times b modulo 2^64, from halves of 32 bits.
+// "multiply by 1099511628211"
+const FNV_PRIME: u64 = 1099511628211;
+
+// a times b modulo 2^64, from halves of 32 bits. Of the program's own, as `docs/DECISIONS.md` F4 has it.
 pub fn wrapping_mul(a: u64, b: u64) -> u64
     ensures { result ≡ (a * b) % 2 ^ 64 }
 {
@@ -17,14 +20,14 @@ pub fn wrapping_mul(a: u64, b: u64) -> u64
     let m1 = a1 * b0 % 4294967296;
     let m2 = a0 * b1 % 4294967296;
     let mid = (m1 + m2) % 4294967296;
-    std::num::wrapping_add_u64(low, mid * 4294967296)
+    low.wrapping_add(mid * 4294967296)
 }
 
 // "for each byte xor, then multiply by 1099511628211 modulo 2^64"
 fn fnv_step(h: u64, b: u8) -> u64
     ensures { result ≡ stepped h b }
 {
-    wrapping_mul(h ^ (b as u64), 1099511628211)
+    wrapping_mul(h ^ u64::from(b), FNV_PRIME)
 }
 
 // FNV-1a over bytes, from a value on.
@@ -32,10 +35,8 @@ pub fn fnv_from(start: u64, s: &[u8]) -> u64
     ensures { result ≡ fnv start s.now }
 {
     let mut h = start;
-    let mut i: usize = 0;
-    while i < s.len() {
-        h = fnv_step(h, s[i]);
-        i += 1;
+    for b in s {
+        h = fnv_step(h, *b);
     }
     h
 }
@@ -44,9 +45,6 @@ pub fn fnv_from(start: u64, s: &[u8]) -> u64
 pub fn fingerprint_from(start: u64, name: &[u8], nonce: u64) -> u64
     ensures { result ≡ fingerprint start name.now nonce }
 {
-    let h = fnv_from(start, name);
-    let h = fnv_step(h, (nonce / 16777216 % 256) as u8);
-    let h = fnv_step(h, (nonce / 65536 % 256) as u8);
-    let h = fnv_step(h, (nonce / 256 % 256) as u8);
-    fnv_step(h, (nonce % 256) as u8)
+    let bytes = nonce.to_be_bytes();
+    fnv_from(fnv_from(start, name), &bytes[4..])
 }

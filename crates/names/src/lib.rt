@@ -7,4 +7,4 @@ pub mod order;
 
 pub use component::{Counted, count_components, first_is, under_localhop, under_localhost};
 pub use fingerprint::{FNV_START, fingerprint_from, fnv_from, wrapping_mul};
-pub use order::{Order, compare, compare_bytes, is_prefix, same};
+pub use order::{compare, compare_bytes, is_prefix, same};

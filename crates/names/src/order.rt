@@ -4,124 +4,61 @@ ghost use Rattle.names.specs.Name.{same_bytes, prefix_of};
 ghost use Rattle.names.specs.Order.{lexical, component_order, canonical_order};
 ghost use Rattle.names.specs.Places.Order.{component_at};
 
-use wire::{Cursor, Element, Read};
-
-// Which of two comes first.
-#[derive(Clone, Copy)]
-pub enum Order {
-    Before,
-    Same,
-    After,
-}
+use std::cmp::Ordering;
+use wire::{Cursor, Element};
 
 // Whether two names have the same bytes.
 pub fn same(a: &[u8], b: &[u8]) -> bool
     ensures { result ≡ same_bytes a.now b.now }
 {
-    if a.len() == b.len() {
-        let mut i: usize = 0;
-        while i < a.len() {
-            if a[i] == b[i] {
-                i += 1;
-            } else {
-                return false;
-            }
-        }
-        return true;
-    }
-    false
+    a == b
 }
 
 // Whether a is a prefix of b.
 pub fn is_prefix(a: &[u8], b: &[u8]) -> bool
     ensures { result ≡ prefix_of a.now b.now }
 {
-    let n = a.len();
-    if n <= b.len() {
-        return same(a, &b[0..n]);
-    }
-    false
+    b.starts_with(a)
 }
 
 // Bytes in order: the first that differ decide, and the shorter comes first where none do.
-pub fn compare_bytes(a: &[u8], b: &[u8]) -> Order
+pub fn compare_bytes(a: &[u8], b: &[u8]) -> Ordering
     ensures { result ≡ lexical a.now b.now }
 {
-    let mut i: usize = 0;
-    while i < a.len() {
-        if b.len() <= i {
-            return Order::After;
-        }
-        if a[i] < b[i] {
-            return Order::Before;
-        }
-        if b[i] < a[i] {
-            return Order::After;
-        }
-        i += 1;
-    }
-    if i < b.len() {
-        return Order::Before;
-    }
-    Order::Same
+    a.cmp(b)
 }
 
 // "component type, length, bytes": the components that stand in a and in b.
-fn compare_components(a: &[u8], x: Element, b: &[u8], y: Element) -> Order
+fn compare_components(a: &[u8], x: Element, b: &[u8], y: Element) -> Ordering
     requires { (x.at + x.len ≤ length a.now) × (y.at + y.len ≤ length b.now) }
     ensures { result ≡ component_order (component_at a.now x) (component_at b.now y) }
 {
-    if x.typ < y.typ {
-        return Order::Before;
-    }
-    if y.typ < x.typ {
-        return Order::After;
-    }
-    if x.len < y.len {
-        return Order::Before;
-    }
-    if y.len < x.len {
-        return Order::After;
-    }
-    let i = x.at;
-    let j = y.at;
-    let m = i + x.len;
-    let n = j + y.len;
-    compare_bytes(&a[i..m], &b[j..n])
+    let v = &a[x.at..x.at + x.len];
+    let w = &b[y.at..y.at + y.len];
+    x.typ
+        .cmp(&y.typ)
+        .then(x.len.cmp(&y.len))
+        .then_with(|| compare_bytes(v, w))
 }
 
 // "canonical order (component type, length, bytes; a prefix first)"
-pub fn compare(a: &[u8], b: &[u8]) -> Order
+pub fn compare(a: &[u8], b: &[u8]) -> Ordering
     ensures { result ≡ canonical_order a.now b.now }
 {
-    let mut i: usize = 0;
-    let mut j: usize = 0;
+    let mut i = Cursor { at: 0 };
+    let mut j = Cursor { at: 0 };
+    // A `loop`, since in each name a component says where the next one begins.
     loop {
-        match (Cursor { at: i }).element(a) {
-            Read::Bad => match (Cursor { at: j }).element(b) {
-                Read::Bad => {
-                    return Order::Same;
+        match (i.element(a), j.element(b)) {
+            (None, None) => return Ordering::Equal,
+            (None, Some(_)) => return Ordering::Less,
+            (Some(_), None) => return Ordering::Greater,
+            (Some((x, c)), Some((y, d))) => match compare_components(a, x, b, y) {
+                Ordering::Equal => {
+                    i = c;
+                    j = d;
                 }
-                Read::Is(_, _) => {
-                    return Order::Before;
-                }
-            },
-            Read::Is(x, c) => match (Cursor { at: j }).element(b) {
-                Read::Bad => {
-                    return Order::After;
-                }
-                Read::Is(y, d) => match compare_components(a, x, b, y) {
-                    Order::Before => {
-                        return Order::Before;
-                    }
-                    Order::After => {
-                        return Order::After;
-                    }
-                    Order::Same => {
-                        i = c.at;
-                        j = d.at;
-                    }
-                },
+                decided => return decided,
             },
         }
     }

@@ -9,8 +9,8 @@ use denote.Triple.Clauses.{AtExit}
 use borrow.Fn.Kinds.{Dens, ended_of, res_t}
 use Rattle.rows.specs.Lent.{Lent}
 use Rattle.rules.specs.Node as rules
-use Rattle.event.specs.declared.Came.{Came}
-use Rattle.event.specs.Memory.{Memory, Output, memory, output, node_of}
+use Rattle.event.specs.declared.Memory.{Memory}
+use Rattle.event.specs.Memory.{Output, output, node_of}
 use Rattle.event.specs.Laws.Same.{Same, stepped_same}
 use Rattle.on_face.proofs.open_face.Kinds as open-face-kinds
 use Rattle.on_face.proofs.open_face.Reads as open-face-reads
@@ -25,109 +25,76 @@ lent e x = record { entry = e.now; exit = x.now }
 abbrev shown : {A : Type 0} → Bor A → Bor A → Lent A
 shown e x = record { entry = e.now; exit = x.now }
 
-module _ (κs : Lfts 13) where
+module _ (κs : Lfts 4) where
   -- the memory of opening a face at entry and at exit
-  abbrev pub open_face_memory : Dens κs open-face-kinds.ps → Came
-      → AtExit (ended_of 13 open-face-kinds.ps open-face-kinds.r) κs → Both Memory Memory
-  open_face_memory a r s =
-      memory a.1.1.1.1.1.1.1.1.1.1.1.1.1.0 r.small
-      (shown a.0 s.0)
-      (shown a.1.0 s.1.0)
-      (shown a.1.1.0 s.1.1.0)
-      (shown a.1.1.1.0 s.1.1.1.0)
-      (lent a.1.1.1.1.0 s.1.1.1.1.0)
-      (shown a.1.1.1.1.1.0 s.1.1.1.1.1.0)
-      (shown a.1.1.1.1.1.1.0 s.1.1.1.1.1.1.0)
-      (shown a.1.1.1.1.1.1.1.0 s.1.1.1.1.1.1.1.0)
-      (shown a.1.1.1.1.1.1.1.1.0 s.1.1.1.1.1.1.1.1.0)
-      (lent a.1.1.1.1.1.1.1.1.1.0 s.1.1.1.1.1.1.1.1.1.0)
+  abbrev pub open_face_memory : Dens κs open-face-kinds.ps
+      → AtExit (ended_of 4 open-face-kinds.ps open-face-kinds.r) κs → Both Memory Memory
+  open_face_memory a s = lent a.0 s.0
 
   -- its output at entry and at exit
   abbrev pub open_face_output : Dens κs open-face-kinds.ps
-      → AtExit (ended_of 13 open-face-kinds.ps open-face-kinds.r) κs → Both Output Output
-  open_face_output a s =
-      output
-      (shown a.1.1.1.1.1.1.1.1.1.1.0 s.1.1.1.1.1.1.1.1.1.1.0)
-      (shown a.1.1.1.1.1.1.1.1.1.1.1.0 s.1.1.1.1.1.1.1.1.1.1.1.0)
-      (lent a.1.1.1.1.1.1.1.1.1.1.1.1.0 s.1.1.1.1.1.1.1.1.1.1.1.1.0)
+      → AtExit (ended_of 4 open-face-kinds.ps open-face-kinds.r) κs → Both Output Output
+  open_face_output a s = output (shown a.1.0 s.1.0) (shown a.1.1.0 s.1.1.0) (lent a.1.1.1.0 s.1.1.1.0)
 
   -- its command
   abbrev pub open_face_what : Dens κs open-face-kinds.ps → rules.What
-  open_face_what a =
-      rules.open_face a.1.1.1.1.1.1.1.1.1.1.1.1.1.1.1.0 a.1.1.1.1.1.1.1.1.1.1.1.1.1.1.1.1.0
-      a.1.1.1.1.1.1.1.1.1.1.1.1.1.1.1.1.1.0
+  open_face_what a = rules.open_face a.1.1.1.1.1.0 a.1.1.1.1.1.1.0 a.1.1.1.1.1.1.1.0
 
   -- opening a face from two memories that mean the same node, with the same time, command and output
   pub open_face_same : (a b : Dens κs open-face-kinds.ps) (x y : (res_t open-face-kinds.r κs).Denot)
-      (s t : AtExit (ended_of 13 open-face-kinds.ps open-face-kinds.r) κs)
-      → a.1.1.1.1.1.1.1.1.1.1.1.1.1.1.0 ≡ b.1.1.1.1.1.1.1.1.1.1.1.1.1.1.0
+      (s t : AtExit (ended_of 4 open-face-kinds.ps open-face-kinds.r) κs)
+      → a.1.1.1.1.0 ≡ b.1.1.1.1.0
       → open_face_what a ≡ open_face_what b
-      → node_of (open_face_memory a x s).entry ≡ node_of (open_face_memory b y t).entry
+      → node_of (open_face_memory a s).entry ≡ node_of (open_face_memory b t).entry
       → (open_face_output a s).entry ≡ (open_face_output b t).entry
       → open-face-reads.Post κs a x s → open-face-reads.Post κs b y t
-      → Same x y (node_of (open_face_memory a x s).exit) (node_of (open_face_memory b y t).exit)
+      → Same x y (node_of (open_face_memory a s).exit) (node_of (open_face_memory b t).exit)
       (open_face_output a s).exit (open_face_output b t).exit
   open_face_same a b x y s t et ew n o p q =
-      stepped_same x y (open_face_memory a x s) (open_face_memory b y t) (open_face_output a s) (open_face_output b t) n o
+      stepped_same x y (open_face_memory a s) (open_face_memory b t) (open_face_output a s) (open_face_output b t) n o
       _ _ (open_face_what a) (open_face_what b) et ew p q
 
   -- two outcomes of opening a face
   pub open_face_one : (a : Dens κs open-face-kinds.ps) (x y : (res_t open-face-kinds.r κs).Denot)
-      (s t : AtExit (ended_of 13 open-face-kinds.ps open-face-kinds.r) κs)
+      (s t : AtExit (ended_of 4 open-face-kinds.ps open-face-kinds.r) κs)
       → open-face-reads.Post κs a x s → open-face-reads.Post κs a y t
-      → Same x y (node_of (open_face_memory a x s).exit) (node_of (open_face_memory a y t).exit)
+      → Same x y (node_of (open_face_memory a s).exit) (node_of (open_face_memory a t).exit)
       (open_face_output a s).exit (open_face_output a t).exit
   open_face_one a x y s t p q = open_face_same a a x y s t refl refl refl refl p q
 
-module _ (κs : Lfts 13) where
+module _ (κs : Lfts 4) where
   -- the memory of closing a face at entry and at exit
-  abbrev pub close_face_memory : Dens κs close-face-kinds.ps → Came
-      → AtExit (ended_of 13 close-face-kinds.ps close-face-kinds.r) κs → Both Memory Memory
-  close_face_memory a r s =
-      memory a.1.1.1.1.1.1.1.1.1.1.1.1.1.0 r.small
-      (shown a.0 s.0)
-      (lent a.1.0 s.1.0)
-      (shown a.1.1.0 s.1.1.0)
-      (shown a.1.1.1.0 s.1.1.1.0)
-      (lent a.1.1.1.1.0 s.1.1.1.1.0)
-      (shown a.1.1.1.1.1.0 s.1.1.1.1.1.0)
-      (shown a.1.1.1.1.1.1.0 s.1.1.1.1.1.1.0)
-      (shown a.1.1.1.1.1.1.1.0 s.1.1.1.1.1.1.1.0)
-      (shown a.1.1.1.1.1.1.1.1.0 s.1.1.1.1.1.1.1.1.0)
-      (lent a.1.1.1.1.1.1.1.1.1.0 s.1.1.1.1.1.1.1.1.1.0)
+  abbrev pub close_face_memory : Dens κs close-face-kinds.ps
+      → AtExit (ended_of 4 close-face-kinds.ps close-face-kinds.r) κs → Both Memory Memory
+  close_face_memory a s = lent a.0 s.0
 
   -- its output at entry and at exit
   abbrev pub close_face_output : Dens κs close-face-kinds.ps
-      → AtExit (ended_of 13 close-face-kinds.ps close-face-kinds.r) κs → Both Output Output
-  close_face_output a s =
-      output
-      (shown a.1.1.1.1.1.1.1.1.1.1.0 s.1.1.1.1.1.1.1.1.1.1.0)
-      (shown a.1.1.1.1.1.1.1.1.1.1.1.0 s.1.1.1.1.1.1.1.1.1.1.1.0)
-      (lent a.1.1.1.1.1.1.1.1.1.1.1.1.0 s.1.1.1.1.1.1.1.1.1.1.1.1.0)
+      → AtExit (ended_of 4 close-face-kinds.ps close-face-kinds.r) κs → Both Output Output
+  close_face_output a s = output (shown a.1.0 s.1.0) (shown a.1.1.0 s.1.1.0) (lent a.1.1.1.0 s.1.1.1.0)
 
   -- its command
   abbrev pub close_face_what : Dens κs close-face-kinds.ps → rules.What
-  close_face_what a =
-      rules.close_face a.1.1.1.1.1.1.1.1.1.1.1.1.1.1.1.0
+  close_face_what a = rules.close_face a.1.1.1.1.1.0
 
   -- closing a face from two memories that mean the same node, with the same time, command and output
   pub close_face_same : (a b : Dens κs close-face-kinds.ps) (x y : (res_t close-face-kinds.r κs).Denot)
-      (s t : AtExit (ended_of 13 close-face-kinds.ps close-face-kinds.r) κs)
-      → a.1.1.1.1.1.1.1.1.1.1.1.1.1.1.0 ≡ b.1.1.1.1.1.1.1.1.1.1.1.1.1.1.0
+      (s t : AtExit (ended_of 4 close-face-kinds.ps close-face-kinds.r) κs)
+      → a.1.1.1.1.0 ≡ b.1.1.1.1.0
       → close_face_what a ≡ close_face_what b
-      → node_of (close_face_memory a x s).entry ≡ node_of (close_face_memory b y t).entry
+      → node_of (close_face_memory a s).entry ≡ node_of (close_face_memory b t).entry
       → (close_face_output a s).entry ≡ (close_face_output b t).entry
       → close-face-reads.Post κs a x s → close-face-reads.Post κs b y t
-      → Same x y (node_of (close_face_memory a x s).exit) (node_of (close_face_memory b y t).exit)
+      → Same x y (node_of (close_face_memory a s).exit) (node_of (close_face_memory b t).exit)
       (close_face_output a s).exit (close_face_output b t).exit
   close_face_same a b x y s t et ew n o p q =
-      stepped_same x y (close_face_memory a x s) (close_face_memory b y t) (close_face_output a s) (close_face_output b t) n o
+      stepped_same x y (close_face_memory a s) (close_face_memory b t) (close_face_output a s) (close_face_output b t) n o
       _ _ (close_face_what a) (close_face_what b) et ew p q
 
   -- two outcomes of closing a face
   pub close_face_one : (a : Dens κs close-face-kinds.ps) (x y : (res_t close-face-kinds.r κs).Denot)
-      (s t : AtExit (ended_of 13 close-face-kinds.ps close-face-kinds.r) κs)
+      (s t : AtExit (ended_of 4 close-face-kinds.ps close-face-kinds.r) κs)
       → close-face-reads.Post κs a x s → close-face-reads.Post κs a y t
-      → Same x y (node_of (close_face_memory a x s).exit) (node_of (close_face_memory a y t).exit)
+      → Same x y (node_of (close_face_memory a s).exit) (node_of (close_face_memory a t).exit)
       (close_face_output a s).exit (close_face_output a t).exit
   close_face_one a x y s t p q = close_face_same a a x y s t refl refl refl refl p q

@@ -1,6 +1,6 @@
 -- Document 01, "Reading packets": what came is a bare packet, or an LpPacket that holds one, with a Nack or without. Over a list of bytes.
 -- Assumes nothing.
-use Rattle.std.specs.Prelude.{ℕ, Bool, true, false, List, [], length, get_or, ltb, eqb}
+use Rattle.std.specs.Prelude.{ℕ, Bool, true, false, List, [], length, get_or, ltb, eqb, None, Option, Some}
 use Rattle.laws.specs.Pick.{pick}
 use Rattle.wire.specs.Number.{big, is_whole}
 use Rattle.wire.specs.Element.{element, onward}
@@ -11,7 +11,6 @@ use Rattle.grammar.specs.Types as types
 use Rattle.grammar.specs.Orders as order
 use Rattle.grammar.specs.Table.{table, row_of, outer}
 use Rattle.grammar.specs.Walk.{Field, absent, here, Fields, walked}
-use Rattle.packethead.specs.declared.header.Nacked.{Nacked}
 
 -- the element of an order
 abbrev pub val : Fields → ℕ → Field
@@ -39,7 +38,7 @@ whole_number l = pick (is_whole (length l)) (big 0 l) 0
 -- a bare packet: the Nack that it came with, whether its header has an element that is 6, its bytes, and how many bytes follow it, which
 -- tells where it stands (no meaning depends on that)
 pub record Bare : Type 0 where
-  pub nack : Nacked
+  pub nack : Option ℕ
   pub marked : Bool
   pub bytes : List ℕ
   pub left : ℕ
@@ -50,12 +49,12 @@ pub data Came : Type 0 where
   bare : Bare → Came
 
 -- "Nack is empty (reason 0) or holds one NackReason"
-unfoldable pub nacked_by : Field → Field → Nacked
-nacked_by absent r = Nacked.No
-nacked_by (here v k) r = Nacked.Reason (whole_number (bytes_in r))
+unfoldable pub nacked_by : Field → Field → Option ℕ
+nacked_by absent r = None
+nacked_by (here v k) r = Some (whole_number (bytes_in r))
 
 -- "no Fragment, is 6"
-unfoldable pub fragment_read : Field → Nacked → Bool → Came
+unfoldable pub fragment_read : Field → Option ℕ → Bool → Came
 fragment_read absent n m = refused Answer.Unsupported
 fragment_read (here v k) n m = bare (record { nack = n; marked = m; bytes = v; left = k })
 
@@ -76,7 +75,7 @@ unfoldable pub outer_read : ℕ → List ℕ → List ℕ → Came
 outer_read t v l =
     pick (eqb (row_of outer t table).order 0) (refused Answer.Malformed)
     (pick (eqb (row_of outer t table).order order.lp_packet) (lp_read v)
-    (bare (record { nack = Nacked.No; marked = false; bytes = l; left = 0 })))
+    (bare (record { nack = None; marked = false; bytes = l; left = 0 })))
 
 -- a packet as it came: "packet over 1,500 (4)", then "the packet [ends] at the last byte"
 unfoldable pub header_read : List ℕ → Came

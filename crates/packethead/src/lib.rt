@@ -6,5 +6,5 @@
 pub mod header;
 pub mod name;
 
-pub use header::{Header, Nacked, Part, part_at, read_header, whole_of};
+pub use header::{Part, bytes_at, part_at, read_header, whole_of};
 pub use name::find_name;

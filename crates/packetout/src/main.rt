@@ -9,42 +9,34 @@ ghost use Rattle.std.specs.Prelude.{length};
 ghost use Rattle.packetout.specs.Places.Group.{GroupIn};
 
 use answers::Answer;
-use packethead::Header;
-use packets::{Hop, Interest, Packet};
+use packets::{HopLimit, Interest, Packet};
 use std::io;
 use std::io::{BufWriter, Read, Write};
-use tape::TapeNumber;
 
 // The most bytes that an input has.
 const MOST: usize = 65536;
 
-// Where a packet stands, or that the group is unreadable.
+// "kind (1 Interest, 2 Data, 3 Nack)"
 #[derive(Clone, Copy)]
-enum Group {
-    Bad,
-    Is(usize, usize),
+enum Kind {
+    Interest = 1,
+    Data = 2,
+    Nack = 3,
 }
 
-// The group at a place: its packet from and to.
-fn group_at(s: &[u8], at: usize) -> Group
+// Where the packet of the group at a place stands, from and to, if the group is readable.
+fn group_at(s: &[u8], at: usize) -> Option<(usize, usize)>
     ensures { GroupIn (length s.now) at result }
 {
-    match tape::number_at(s, at) {
-        TapeNumber::Bad => Group::Bad,
-        TapeNumber::Is(n, from) => {
-            if s.len() < from {
-                return Group::Bad;
-            }
-            if from <= at {
-                return Group::Bad;
-            }
-            let left = s.len() - from;
-            if (left as u64) < n {
-                return Group::Bad;
-            }
-            Group::Is(from, from + n as usize)
-        }
+    let (n, from) = tape::number_at(s, at)?;
+    if from <= at {
+        return None;
     }
+    let left = s.len().checked_sub(from)?;
+    if (left as u64) < n {
+        return None;
+    }
+    Some((from, from + n as usize))
 }
 
 // A number after a space.
@@ -52,27 +44,21 @@ fn word(out: &mut impl Write, n: u64) -> io::Result<()> {
     write!(out, " {n}")
 }
 
-// A byte as a number.
-fn wide(b: u8) -> u64 {
-    b as u64
-}
-
 // Bytes in lower-case hex after a space, `-` where there are none.
 fn hex(out: &mut impl Write, s: &[u8]) -> io::Result<()> {
     out.write_all(b" ")?;
-    if s.len() == 0 {
+    if s.is_empty() {
         out.write_all(b"-")?;
     }
     for b in s {
-        let n = wide(*b);
-        write!(out, "{n:02x}")?;
+        write!(out, "{b:02x}")?;
     }
     Ok(())
 }
 
 // A flag as 1 or 0.
 fn flag(out: &mut impl Write, b: bool) -> io::Result<()> {
-    if b { word(out, 1) } else { word(out, 0) }
+    word(out, u64::from(b))
 }
 
 // Name, flags and nonce of the Interest in s.
@@ -85,39 +71,34 @@ fn request(out: &mut impl Write, s: &[u8], i: Interest) -> io::Result<()> {
 }
 
 // The HopLimit, `-` where there is none.
-fn limit(out: &mut impl Write, h: Hop) -> io::Result<()> {
+fn limit(out: &mut impl Write, h: Option<HopLimit>) -> io::Result<()> {
     match h {
-        Hop::Absent => out.write_all(b" -"),
-        Hop::Limit(n, _) => word(out, n),
+        None => out.write_all(b" -"),
+        Some(h) => word(out, h.limit),
     }
 }
 
-// A refusal.
-fn refused(out: &mut impl Write, a: Answer) -> io::Result<()> {
-    word(out, answers::number(a))
+// A packet's answer.
+fn answer(out: &mut impl Write, a: Answer) -> io::Result<()> {
+    word(out, u64::from(a))
 }
 
-// The bare packet s.
+// The bare packet s: kind and fields.
 fn meaning(out: &mut impl Write, s: &[u8], p: Packet) -> io::Result<()> {
     match p {
-        Packet::Refused(a) => refused(out, a),
         Packet::Interest(i) => {
-            word(out, 0)?;
-            word(out, 1)?;
+            word(out, Kind::Interest as u64)?;
             request(out, s, i)?;
             word(out, i.lifetime)?;
-            let hop = i.hop;
-            limit(out, hop)
+            limit(out, i.hop)
         }
         Packet::Data(d) => {
-            word(out, 0)?;
-            word(out, 2)?;
+            word(out, Kind::Data as u64)?;
             hex(out, packethead::find_name(s))?;
             word(out, d.freshness)
         }
         Packet::Nack(reason, i) => {
-            word(out, 0)?;
-            word(out, 3)?;
+            word(out, Kind::Nack as u64)?;
             word(out, reason)?;
             request(out, s, i)
         }
@@ -127,22 +108,19 @@ fn meaning(out: &mut impl Write, s: &[u8], p: Packet) -> io::Result<()> {
 // The packet s, as it came.
 fn packet(out: &mut impl Write, s: &[u8]) -> io::Result<()> {
     match packethead::read_header(s) {
-        Header::Refused(a) => refused(out, a),
-        Header::Bare(b) => {
-            let from = b.from;
-            let len = b.len;
-            if s.len() < from {
+        Err(a) => answer(out, a),
+        Ok(part) => {
+            if s.len() < part.from || s.len() - part.from < part.len {
                 return Ok(());
             }
-            if s.len() - from < len {
-                return Ok(());
+            let bare = &s[part.from..part.from + part.len];
+            match packets::read_bare(bare, part.nack, part.marked) {
+                Err(a) => answer(out, a),
+                Ok(p) => {
+                    answer(out, Answer::Done)?;
+                    meaning(out, bare, p)
+                }
             }
-            let to = from + len;
-            let nack = b.nack;
-            let marked = b.marked;
-            let bare = &s[from..to];
-            let read = packets::read_bare(bare, nack, marked);
-            meaning(out, bare, read)
         }
     }
 }
@@ -151,21 +129,16 @@ fn packet(out: &mut impl Write, s: &[u8]) -> io::Result<()> {
 fn groups(out: &mut impl Write, s: &[u8]) -> io::Result<()> {
     let mut at: usize = 0;
     let mut position: u64 = 1;
+    // A `while`, since a group begins where the one before it ends.
     while at < s.len() {
-        match group_at(s, at) {
-            Group::Bad => {
-                out.write_all(b"bad")?;
-                word(out, at as u64)?;
-                return out.write_all(b"\n");
-            }
-            Group::Is(from, to) => {
-                write!(out, "{position}")?;
-                packet(out, &s[from..to])?;
-                out.write_all(b"\n")?;
-                position += 1;
-                at = to;
-            }
-        }
+        let Some((from, to)) = group_at(s, at) else {
+            return writeln!(out, "bad {at}");
+        };
+        write!(out, "{position}")?;
+        packet(out, &s[from..to])?;
+        writeln!(out)?;
+        position += 1;
+        at = to;
     }
     Ok(())
 }

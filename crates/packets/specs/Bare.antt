@@ -1,6 +1,6 @@
 -- Document 01, "Reading packets": the bare Interest or Data, over a list of bytes.
 -- Assumes nothing.
-use Rattle.std.specs.Prelude.{ℕ, Bool, List, length, ltb, eqb}
+use Rattle.std.specs.Prelude.{ℕ, Bool, List, length, ltb, eqb, None, Option, Some}
 use Rattle.laws.specs.Pick.{pick}
 use Rattle.wire.specs.Element.{element, onward}
 use Rattle.wire.specs.Verdict.{is_malformed, is_unsupported}
@@ -12,7 +12,6 @@ use Rattle.grammar.specs.Types as types
 use Rattle.grammar.specs.Orders as order
 use Rattle.grammar.specs.Table.{table, row_of}
 use Rattle.grammar.specs.Walk.{Field, absent, here, Fields, walked}
-use Rattle.packethead.specs.declared.header.Nacked.{Nacked}
 use Rattle.packethead.specs.Header.{val, bytes_in, missing, whole_number}
 
 -- what a bare packet is: a refusal; an Interest's elements; a Data's elements and those of its MetaInfo; or a Nack's reason and Interest
@@ -23,9 +22,9 @@ pub data Reading : Type 0 where
   nacks : ℕ → Fields → Reading
 
 -- the Interest itself, or the Nack that brought it
-unfoldable pub asked_by : Nacked → Fields → Reading
-asked_by Nacked.No f = asks f
-asked_by (Nacked.Reason n) f = nacks n f
+unfoldable pub asked_by : Option ℕ → Fields → Reading
+asked_by None f = asks f
+asked_by (Some n) f = nacks n f
 
 -- "Name at most 16 components and 255 bytes"
 unfoldable pub sized : List ℕ → ℕ → Reading → Reading
@@ -33,7 +32,7 @@ sized name n r = pick (ltb most_name (length name)) (refused Answer.TooLong) (pi
 
 -- an Interest whose elements are there, by what its name says: "one component or more"; 6 in the header, in the Interest or in the
 -- name; then the name's size
-unfoldable pub named_interest : Nacked → Bool → Fields → Counted → Reading
+unfoldable pub named_interest : Option ℕ → Bool → Fields → Counted → Reading
 named_interest k m f c =
     pick (is_malformed c.said) (refused Answer.Malformed)
     (pick (eqb c.count 0) (refused Answer.Malformed)
@@ -42,7 +41,7 @@ named_interest k m f c =
     (pick (is_unsupported c.said) (refused Answer.Unsupported) (sized (bytes_in (val f order.name)) c.count (asked_by k f))))))
 
 -- an Interest by its elements: Name and Nonce are required
-unfoldable pub interest_read : Nacked → Bool → Fields → Reading
+unfoldable pub interest_read : Option ℕ → Bool → Fields → Reading
 interest_read k m f =
     pick (is_malformed f.said) (refused Answer.Malformed)
     (pick (missing (val f order.name)) (refused Answer.Malformed)
@@ -69,18 +68,18 @@ unfoldable pub data_value : Bool → List ℕ → Reading
 data_value m v = data_read m (walked types.dat v) (walked types.meta_info (bytes_in (val (walked types.dat v) order.meta_info)))
 
 -- "with Nack an Interest; else 5"
-unfoldable pub data_unless : Nacked → Reading → Reading
-data_unless Nacked.No r = r
-data_unless (Nacked.Reason n) r = refused Answer.Malformed
+unfoldable pub data_unless : Option ℕ → Reading → Reading
+data_unless None r = r
+data_unless (Some n) r = refused Answer.Malformed
 
 -- the one element of a bare packet, of type t and value v: an Interest or a Data
-unfoldable pub kind_read : Nacked → Bool → ℕ → List ℕ → Reading
+unfoldable pub kind_read : Option ℕ → Bool → ℕ → List ℕ → Reading
 kind_read k m t v =
     pick (eqb (row_of types.fragment t table).order order.interest) (interest_read k m (walked types.interest v))
     (pick (eqb (row_of types.fragment t table).order order.dat) (data_unless k (data_value m v)) (refused Answer.Malformed))
 
 -- a bare packet, with the Nack that it came with and whether its header has an element that is 6
-unfoldable pub bare_read : Nacked → Bool → List ℕ → Reading
+unfoldable pub bare_read : Option ℕ → Bool → List ℕ → Reading
 unfolding pick onward table row_of walked counted whole_number asked_by sized named_interest interest_read named_data data_read data_value data_unless
     kind_read
 bare_read k m l =

@@ -1,5 +1,6 @@
 -- What a packet means: what the rules are told of it.
 -- Assumes nothing.
+use Rattle.std.specs.declared.option.Option as code
 use Rattle.std.specs.Prelude.{ℕ, ◌-◌, ◌%◌, Bool, List, length, set}
 use Rattle.std.proofs.Math.Option.{Option, none, some}
 use Rattle.wire.specs.Number.{number, is_whole}
@@ -9,7 +10,6 @@ use Rattle.grammar.specs.Orders as order
 use Rattle.grammar.specs.Table.{critical, skipped_lp, fits, other}
 use Rattle.answers.specs.declared.Answer.{Answer}
 use Rattle.grammar.specs.Walk.{Field, absent, here, Fields, walked}
-use Rattle.packethead.specs.declared.header.Nacked.{Nacked}
 use Rattle.packethead.specs.Header.{val, bytes_in, present, whole_number, Came, header_read}
 use Rattle.packethead.specs.Header as header
 use Rattle.packets.specs.Bare.{Reading, capped, lifetime_of, freshness_of, bare_read}
@@ -70,7 +70,7 @@ meant l (bare.brings f g) = brings (offer_of f g) l
 meant l (bare.nacks r f) = nacks r (ask_of f)
 
 -- what a bare packet means, with the Nack that it came with and whether its header has an element that is 6
-unfoldable pub heard_bare : Nacked → Bool → List ℕ → Heard
+unfoldable pub heard_bare : code.Option ℕ → Bool → List ℕ → Heard
 unfolding number element elements is_whole critical skipped_lp fits other walked counted hop_of ask_of offer_of lifetime_of freshness_of leaving
     meant bare_read capped
 heard_bare k m l = meant l (bare_read k m l)

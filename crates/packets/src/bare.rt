@@ -4,23 +4,23 @@ ghost use Rattle.grammar.specs.Types as types;
 ghost use Rattle.grammar.specs.Walk.{walked};
 ghost use Rattle.packets.specs.Bare.{bare_read};
 ghost use Rattle.packets.specs.Places.Bare.{interest_in, packet_in};
-ghost use Rattle.packets.specs.Places.Bare.{there_at, moved_by, lifetime_at, freshness_at, hop_at, nacked_packet, IsFound};
-ghost use Rattle.packets.specs.Places.Bare.{named_interest_from, interest_from, NamedDataFrom, data_from};
+ghost use Rattle.packets.specs.Places.Bare.{moved_by, lifetime_at, freshness_at, hop_at, nacked_packet, HopFits, IsFound};
+ghost use Rattle.packets.specs.Places.Bare.{name_checked, interest_from, data_from};
 
 use answers::Answer;
 use grammar::{Found, Place, order, types};
 use names::Counted;
-use packethead::{Nacked, part_at, whole_of};
-use wire::{Cursor, Read};
+use packethead::{bytes_at, part_at, whole_of};
+use wire::Cursor;
 
-// The HopLimit and its place, or that there is none.
+// A HopLimit, and where it stands.
 #[derive(Clone, Copy)]
-pub enum Hop {
-    Absent,
-    Limit(u64, usize),
+pub struct HopLimit {
+    pub limit: u64,
+    pub at: usize,
 }
 
-// An Interest: its name's place, the two flags, nonce, lifetime as it counts, and HopLimit.
+// An Interest: its name's place, the two flags, nonce, lifetime as it counts, and its HopLimit, if it has one.
 #[derive(Clone, Copy)]
 pub struct Interest {
     pub name: Place,
@@ -28,7 +28,7 @@ pub struct Interest {
     pub must_be_fresh: bool,
     pub nonce: u64,
     pub lifetime: u64,
-    pub hop: Hop,
+    pub hop: Option<HopLimit>,
 }
 
 // A Data: its name's place, and its freshness as it counts.
@@ -38,33 +38,20 @@ pub struct Data {
     pub freshness: u64,
 }
 
-// What a bare packet is, or its refusal. Places are places in it.
+// What a bare packet is: an Interest, a Data, or a Nack's reason and its Interest. Places are places in it.
 #[derive(Clone, Copy)]
 pub enum Packet {
-    Refused(Answer),
     Interest(Interest),
     Data(Data),
     Nack(u64, Interest),
 }
 
-// Whether there is an element at a place.
-fn is_there(p: Place) -> bool
-    ensures { result ≡ there_at p }
-{
-    if p.at == 0 {
-        return false;
-    }
-    true
-}
-
-// A place in a packet whose value stands at base; an absent one stays absent.
+// A place in a packet whose value stands at base.
+#[tactic(auto, unfolding(crate::specs::Places::Bare::moved_by))]
 fn shifted(p: Place, base: usize) -> Place
     requires { base + p.at < 2 ^ 64 }
     ensures { result ≡ moved_by base p }
 {
-    if p.at == 0 {
-        return p;
-    }
     Place {
         at: base + p.at,
         len: p.len,
@@ -72,216 +59,140 @@ fn shifted(p: Place, base: usize) -> Place
 }
 
 // "An InterestLifetime above 60,000 counts as 60,000, absent as 4,000."
-fn lifetime_of(v: &[u8], p: Place) -> u64
+#[tactic(auto, using(crate::specs::Laws::Bare::capped_min), unfolding(crate::specs::Places::Bare::lifetime_at))]
+fn lifetime_of(v: &[u8], p: Option<Place>) -> u64
     ensures { result ≡ lifetime_at v.now p }
 {
-    if p.at == 0 {
-        return sizes::USUAL_LIFETIME;
+    match p {
+        None => sizes::USUAL_LIFETIME,
+        Some(p) => whole_of(part_at(v, p)).min(sizes::MOST_LIFETIME),
     }
-    let n = whole_of(part_at(v, p));
-    if sizes::MOST_LIFETIME < n {
-        return sizes::MOST_LIFETIME;
-    }
-    n
 }
 
 // "A FreshnessPeriod above 86,400,000 counts as that, absent as 0."
-fn freshness_of(m: &[u8], p: Place) -> u64
+#[tactic(auto, using(crate::specs::Laws::Bare::capped_min), unfolding(crate::specs::Places::Bare::freshness_at))]
+fn freshness_of(m: &[u8], p: Option<Place>) -> u64
     ensures { result ≡ freshness_at m.now p }
 {
-    let n = whole_of(part_at(m, p));
-    if sizes::MOST_FRESHNESS < n {
-        return sizes::MOST_FRESHNESS;
-    }
-    n
+    whole_of(bytes_at(m, p)).min(sizes::MOST_FRESHNESS)
 }
 
 // The HopLimit of an Interest whose value stands at base.
-fn hop_of(v: &[u8], p: Place, base: usize) -> Hop
-    requires { base + p.at < 2 ^ 64 }
+#[tactic(auto, unfolding(crate::specs::Places::Bare::hop_at))]
+fn hop_of(v: &[u8], p: Option<Place>, base: usize) -> Option<HopLimit>
+    requires { HopFits base p }
     ensures { result ≡ hop_at base v.now p }
 {
-    if p.at == 0 {
-        return Hop::Absent;
-    }
-    Hop::Limit(whole_of(part_at(v, p)), base + p.at)
+    let p = p?;
+    Some(HopLimit {
+        limit: whole_of(part_at(v, p)),
+        at: base + p.at,
+    })
 }
 
-// The Interest whose elements were found in its value, which stands at base.
-fn made(v: &[u8], f: Found, base: usize) -> Interest
-    requires { IsFound types.interest v.now base f }
+// The Interest whose elements were found in its value, which stands at base; its name stands at a place of it.
+fn made(v: &[u8], f: Found, name: Place, base: usize) -> Interest
+    requires { IsFound types.interest v.now base f name }
     ensures { result ≡ interest_in (base + length v.now) (walked types.interest v.now) }
 {
-    let name = f.places[order::NAME];
-    let prefix = f.places[order::CAN_BE_PREFIX];
-    let fresh = f.places[order::MUST_BE_FRESH];
-    let nonce = f.places[order::NONCE];
-    let lifetime = f.places[order::LIFETIME];
-    let hop = f.places[order::HOP_LIMIT];
     Interest {
         name: shifted(name, base),
-        can_be_prefix: is_there(prefix),
-        must_be_fresh: is_there(fresh),
-        nonce: whole_of(part_at(v, nonce)),
-        lifetime: lifetime_of(v, lifetime),
-        hop: hop_of(v, hop, base),
+        can_be_prefix: f.places[order::CAN_BE_PREFIX].is_some(),
+        must_be_fresh: f.places[order::MUST_BE_FRESH].is_some(),
+        nonce: whole_of(bytes_at(v, f.places[order::NONCE])),
+        lifetime: lifetime_of(v, f.places[order::LIFETIME]),
+        hop: hop_of(v, f.places[order::HOP_LIMIT], base),
     }
 }
 
-// The same with its reason where a Nack brought it.
-fn with_nack(nack: Nacked, i: Interest) -> Packet
+// An Interest, or the Nack that brought it.
+#[tactic(auto, unfolding(crate::specs::Places::Bare::nacked_packet))]
+fn with_nack(nack: Option<u64>, i: Interest) -> Packet
     ensures { result ≡ nacked_packet nack i }
 {
     match nack {
-        Nacked::No => Packet::Interest(i),
-        Nacked::Reason(n) => Packet::Nack(n, i),
+        None => Packet::Interest(i),
+        Some(reason) => Packet::Nack(reason, i),
     }
 }
 
-// An Interest whose elements are there, by what its name says: "one component or more"; 6, in the header, in the Interest or in the name;
-// then the name's size.
-fn named_interest(v: &[u8], f: Found, base: usize, nack: Nacked, marked: bool, c: Counted) -> Packet
-    requires { IsFound types.interest v.now base f }
-    ensures { result ≡ named_interest_from nack marked base v.now c }
+// What the name of a packet refuses whose elements are there: 5 in the name; 6, in the name or already met; then the name's size.
+#[tactic(auto, unfolding(crate::specs::Places::Bare::name_checked, laws::specs::Pick::pick))]
+fn check_name(name: Place, c: Counted, unsupported: bool) -> Result<(), Answer>
+    ensures { result ≡ name_checked name.len c unsupported }
 {
-    let name = f.places[order::NAME];
-    let own = f.said;
-    let said = c.said;
-    if said.is_malformed() {
-        return Packet::Refused(Answer::Malformed);
+    if c.said.is_malformed() {
+        return Err(Answer::Malformed);
     }
-    if c.count == 0 {
-        return Packet::Refused(Answer::Malformed);
+    if unsupported || c.said.is_unsupported() {
+        return Err(Answer::Unsupported);
     }
-    if marked {
-        return Packet::Refused(Answer::Unsupported);
+    if sizes::NAME < name.len || sizes::COMPONENTS < c.count {
+        return Err(Answer::TooLong);
     }
-    if own.is_unsupported() {
-        return Packet::Refused(Answer::Unsupported);
-    }
-    if said.is_unsupported() {
-        return Packet::Refused(Answer::Unsupported);
-    }
-    if sizes::NAME < name.len {
-        return Packet::Refused(Answer::TooLong);
-    }
-    if sizes::COMPONENTS < c.count {
-        return Packet::Refused(Answer::TooLong);
-    }
-    with_nack(nack, made(v, f, base))
+    Ok(())
 }
 
-// The value of an Interest, which stands at base. "5, 6, name size (4)": 5 anywhere comes first, then 6, in the header too.
-fn read_interest(v: &[u8], base: usize, nack: Nacked, marked: bool) -> Packet
+// The value of an Interest, which stands at base. "5, 6, name size (4)": 5 anywhere comes first, then 6, in the header too. A name has
+// "one component or more".
+fn read_interest(v: &[u8], base: usize, nack: Option<u64>, marked: bool) -> Result<Packet, Answer>
     requires { base + length v.now < 2 ^ 64 }
     ensures { result ≡ interest_from nack marked base v.now }
 {
     let f = grammar::walk(v, types::INTEREST);
-    let name = f.places[order::NAME];
-    let nonce = f.places[order::NONCE];
-    let said = f.said;
-    if said.is_malformed() {
-        return Packet::Refused(Answer::Malformed);
+    if f.said.is_malformed() || f.places[order::NONCE].is_none() {
+        return Err(Answer::Malformed);
     }
-    if name.at == 0 {
-        return Packet::Refused(Answer::Malformed);
-    }
-    if nonce.at == 0 {
-        return Packet::Refused(Answer::Malformed);
-    }
+    let name = f.places[order::NAME].ok_or(Answer::Malformed)?;
     let c = names::count_components(part_at(v, name));
-    named_interest(v, f, base, nack, marked, c)
+    if c.count == 0 {
+        return Err(Answer::Malformed);
+    }
+    check_name(name, c, marked || f.said.is_unsupported())?;
+    Ok(with_nack(nack, made(v, f, name, base)))
 }
 
-// A Data whose elements are there, by what its name says: 6, in the header or in the name, then the name's size.
-fn named_data(v: &[u8], f: Found, base: usize, marked: bool, freshness: u64, c: Counted) -> Packet
-    requires { IsFound types.dat v.now base f }
-    ensures { NamedDataFrom marked base v.now freshness c result }
-{
-    let name = f.places[order::NAME];
-    let said = c.said;
-    if said.is_malformed() {
-        return Packet::Refused(Answer::Malformed);
-    }
-    if marked {
-        return Packet::Refused(Answer::Unsupported);
-    }
-    if said.is_unsupported() {
-        return Packet::Refused(Answer::Unsupported);
-    }
-    if sizes::NAME < name.len {
-        return Packet::Refused(Answer::TooLong);
-    }
-    if sizes::COMPONENTS < c.count {
-        return Packet::Refused(Answer::TooLong);
-    }
-    Packet::Data(Data {
-        name: shifted(name, base),
-        freshness: freshness,
-    })
-}
-
-// The value of a Data, which stands at base. Where there is no MetaInfo its place is empty, and nothing is found in it.
-fn read_data(v: &[u8], base: usize, marked: bool) -> Packet
+// The value of a Data, which stands at base. Where there is no MetaInfo it has no bytes, and nothing is found in it.
+fn read_data(v: &[u8], base: usize, marked: bool) -> Result<Packet, Answer>
     requires { base + length v.now < 2 ^ 64 }
     ensures { result ≡ data_from marked base v.now }
 {
     let f = grammar::walk(v, types::DATA);
-    let name = f.places[order::NAME];
-    let meta = f.places[order::META_INFO];
-    let info = f.places[order::SIGNATURE_INFO];
-    let signature = f.places[order::SIGNATURE_VALUE];
-    let said = f.said;
-    if said.is_malformed() {
-        return Packet::Refused(Answer::Malformed);
+    if f.said.is_malformed()
+        || f.places[order::SIGNATURE_INFO].is_none()
+        || f.places[order::SIGNATURE_VALUE].is_none()
+    {
+        return Err(Answer::Malformed);
     }
-    if name.at == 0 {
-        return Packet::Refused(Answer::Malformed);
-    }
-    if info.at == 0 {
-        return Packet::Refused(Answer::Malformed);
-    }
-    if signature.at == 0 {
-        return Packet::Refused(Answer::Malformed);
-    }
-    let held = part_at(v, meta);
+    let name = f.places[order::NAME].ok_or(Answer::Malformed)?;
+    let held = bytes_at(v, f.places[order::META_INFO]);
     let m = grammar::walk(held, types::META_INFO);
-    let period = m.places[order::FRESHNESS];
-    let inner = m.said;
-    if inner.is_malformed() {
-        return Packet::Refused(Answer::Malformed);
+    if m.said.is_malformed() {
+        return Err(Answer::Malformed);
     }
     let c = names::count_components(part_at(v, name));
-    named_data(v, f, base, marked, freshness_of(held, period), c)
+    check_name(name, c, marked)?;
+    Ok(Packet::Data(Data {
+        name: shifted(name, base),
+        freshness: freshness_of(held, m.places[order::FRESHNESS]),
+    }))
 }
 
 // "A Fragment holds a bare Interest or Data, with Nack an Interest; else 5."
-pub fn read_bare(s: &[u8], nack: Nacked, marked: bool) -> Packet
+pub fn read_bare(s: &[u8], nack: Option<u64>, marked: bool) -> Result<Packet, Answer>
     ensures { result ≡ packet_in (length s.now) (bare_read nack marked s.now) }
 {
-    match (Cursor { at: 0 }).element(s) {
-        Read::Bad => Packet::Refused(Answer::Malformed),
-        Read::Is(e, next) => {
-            if next.at < s.len() {
-                return Packet::Refused(Answer::Malformed);
-            }
-            let row = grammar::row_of(types::FRAGMENT, e.typ);
-            let from = e.at;
-            let to = from + e.len;
-            if row.order == order::INTEREST as u16 {
-                return read_interest(&s[from..to], from, nack, marked);
-            }
-            if row.order == order::DATA as u16 {
-                match nack {
-                    Nacked::No => {
-                        return read_data(&s[from..to], from, marked);
-                    }
-                    Nacked::Reason(_) => {
-                        return Packet::Refused(Answer::Malformed);
-                    }
-                }
-            }
-            Packet::Refused(Answer::Malformed)
-        }
+    let (e, next) = (Cursor { at: 0 }).element(s).ok_or(Answer::Malformed)?;
+    if next.at < s.len() {
+        return Err(Answer::Malformed);
     }
+    let row = grammar::row_of(types::FRAGMENT, e.typ).ok_or(Answer::Malformed)?;
+    let value = &s[e.at..e.at + e.len];
+    if row.order == order::INTEREST {
+        return read_interest(value, e.at, nack, marked);
+    }
+    if row.order == order::DATA && nack.is_none() {
+        return read_data(value, e.at, marked);
+    }
+    Err(Answer::Malformed)
 }

@@ -3,4 +3,4 @@
 
 pub mod bare;
 
-pub use bare::{Data, Hop, Interest, Packet, read_bare};
+pub use bare::{Data, HopLimit, Interest, Packet, read_bare};

@@ -1,2 +1,3 @@
-pub mod Bridge
+pub mod Write
 pub mod Change
+pub mod Bridge

@@ -1,6 +1,7 @@
 -- An entry without records, the request that an answer tells, and sets of faces of an entry.
 -- Assumes nothing.
-use Rattle.std.specs.Prelude.{ℕ, Bool, ◌&&◌, not, List}
+use Rattle.std.specs.declared.option.Option as code
+use Rattle.std.specs.Prelude.{ℕ, Bool, ◌&&◌, not, List, Some, None}
 use Rattle.std.proofs.Math.Option.{Option, none, some}
 use Rattle.faces.specs.Set.{has_face, faces_where}
 use Rattle.records.specs.Class.{Class}
@@ -21,9 +22,9 @@ abbrev pub sent_with : ℕ → ℕ → Sent
 sent_with nonce time = record { nonce = nonce; time = time; nacked = none }
 
 -- the request that an answer tells
-unfoldable pub request_in : Asked → Option Request
-request_in Asked.None = none
-request_in (Asked.Is nonce expiry) = some (request_with nonce expiry)
+unfoldable pub request_in : code.Option Asked → Option Request
+request_in None = none
+request_in (Some a) = some (request_with a.nonce a.expiry)
 
 -- the faces with a request
 unfoldable pub asking_faces : ℕ → Entry → ℕ

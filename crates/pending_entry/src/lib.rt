@@ -2,7 +2,7 @@
 // presence exists.
 #![tactic(auto)]
 
-ghost use Rattle.std.specs.Prelude.{◌≡◌, List, ℕ, ◌+◌, take, length, eqb};
+ghost use Rattle.std.specs.Prelude.{◌≡◌, List, ℕ, ◌+◌, take};
 ghost use Rattle.sizes.specs.Sizes.{most_faces};
 ghost use Rattle.records.specs.Class.{class_of};
 ghost use Rattle.records.specs.Face.{is_face};
@@ -48,60 +48,40 @@ pub type Head = [u64; 6];
 // For each face its records.
 pub type Records = [[u64; 5]; FACES];
 
-// A face's request, if there is one: its nonce and expiry.
-#[derive(Clone, Copy)]
-pub enum Asked {
-    None,
-    Is(u64, u64),
-}
-
-// A flag as a word of the head.
-fn word(flag: bool) -> u64
-    ensures { eqb result 1 ≡ flag }
-{
-    if flag { 1 } else { 0 }
+// A face's request: its nonce and expiry.
+#[derive(Clone, Copy, Debug, PartialEq, Eq)]
+pub struct Asked {
+    pub nonce: u64,
+    pub expiry: u64,
 }
 
 // The head of an entry without records.
+#[tactic(auto, using(crate::specs::Laws::Change::view_bare))]
 pub fn bare(len: u64, prefix: bool, fresh: bool, class: u64) -> Head
     ensures { (nm : List ℕ) (t : List (List ℕ)) → view nm result t ≡ bare_entry most_faces (take len nm) prefix fresh (class_of class) }
 {
-    [len, word(prefix), word(fresh), class, 0, 0]
+    [len, u64::from(prefix), u64::from(fresh), class, 0, 0]
 }
 
 // Whether a number is a face's.
+#[tactic(auto, unfolding(records::specs::Face::is_face))]
 fn is_face(face: usize) -> bool
     ensures { result ≡ is_face most_faces face }
 {
-    if face == 0 {
-        return false;
-    }
-    face <= FACES
+    (1..=FACES).contains(&face)
 }
 
-// There is a record for each face. It is said of a value, since of what stands behind a reference no length is known.
-fn has_all_records(recs: Records)
-    ensures { length recs ≡ most_faces }
-{}
-
 // "open this face's request, or renew it with the new nonce and expiry"
+#[tactic(auto, using(crate::specs::Laws::Write::face_within, crate::specs::Laws::Change::view_asking_none))]
 pub fn renew(head: &mut Head, recs: &mut Records, face: usize, nonce: u64, expiry: u64)
     ensures { (nm : List ℕ) → after nm (lent head) (lent recs) ≡ asking face (request_with nonce expiry) (before nm (lent head)
         (lent recs)) }
 {
     if is_face(face) {
-        has_all_records(*recs);
-        let h = *head;
-        let r = recs[face - 1];
-        *head = [
-            h[LENGTH],
-            h[PREFIX],
-            h[FRESH],
-            h[CLASS],
-            add(h[ASKING], face),
-            h[SENT],
-        ];
-        recs[face - 1] = [nonce, expiry, r[SENT_NONCE], r[SENT_TIME], r[NACK]];
+        head[ASKING] = add(head[ASKING], face);
+        let own = &mut recs[face - 1];
+        own[NONCE] = nonce;
+        own[EXPIRY] = expiry;
     }
 }
 
@@ -109,34 +89,20 @@ pub fn renew(head: &mut Head, recs: &mut Records, face: usize, nonce: u64, expir
 pub fn end_requests(head: &mut Head, recs: &Records, set: u64)
     ensures { (nm : List ℕ) → after nm (lent head) (shown recs) ≡ ending (has_face most_faces set) (before nm (lent head) (shown recs)) }
 {
-    let h = *head;
-    *head = [
-        h[LENGTH],
-        h[PREFIX],
-        h[FRESH],
-        h[CLASS],
-        less(h[ASKING], set),
-        h[SENT],
-    ];
+    head[ASKING] = less(head[ASKING], set);
 }
 
 // "A send sets the out-record anew, its Nack reason cleared."
+#[tactic(auto, using(crate::specs::Laws::Write::face_within, crate::specs::Laws::Change::view_sending_none))]
 pub fn send(head: &mut Head, recs: &mut Records, face: usize, nonce: u64, time: u64)
     ensures { (nm : List ℕ) → after nm (lent head) (lent recs) ≡ sending face (sent_with nonce time) (before nm (lent head) (lent recs)) }
 {
     if is_face(face) {
-        has_all_records(*recs);
-        let h = *head;
-        let r = recs[face - 1];
-        *head = [
-            h[LENGTH],
-            h[PREFIX],
-            h[FRESH],
-            h[CLASS],
-            h[ASKING],
-            add(h[SENT], face),
-        ];
-        recs[face - 1] = [r[NONCE], r[EXPIRY], nonce, time, 0];
+        head[SENT] = add(head[SENT], face);
+        let own = &mut recs[face - 1];
+        own[SENT_NONCE] = nonce;
+        own[SENT_TIME] = time;
+        own[NACK] = 0;
     }
 }
 
@@ -144,34 +110,23 @@ pub fn send(head: &mut Head, recs: &mut Records, face: usize, nonce: u64, time: 
 pub fn end_sent(head: &mut Head, recs: &Records, face: usize)
     ensures { (nm : List ℕ) → after nm (lent head) (shown recs) ≡ not_sent face (before nm (lent head) (shown recs)) }
 {
-    let h = *head;
-    *head = [
-        h[LENGTH],
-        h[PREFIX],
-        h[FRESH],
-        h[CLASS],
-        h[ASKING],
-        remove(h[SENT], face),
-    ];
+    head[SENT] = remove(head[SENT], face);
 }
 
 // "Reasons other than 50, 100, 150 become 0"
+#[tactic(auto, unfolding(records::specs::Entry::reason_of, laws::specs::Pick::pick))]
 pub fn reason_of(reason: u64) -> u64
     ensures { result ≡ reason_of reason }
 {
-    if reason == 50 {
-        return reason;
+    if matches!(reason, 50 | 100 | 150) {
+        reason
+    } else {
+        0
     }
-    if reason == 100 {
-        return reason;
-    }
-    if reason == 150 {
-        return reason;
-    }
-    0
 }
 
 // The word of a Nack: the reason and 1.
+#[tactic(auto, using(crate::specs::Laws::Change::reason_most))]
 fn nack_word(reason: u64) -> u64
     ensures { result ≡ reason_of reason + 1 }
 {
@@ -179,23 +134,18 @@ fn nack_word(reason: u64) -> u64
 }
 
 // Marks a face's out-record as Nacked: "Reasons other than 50, 100, 150 become 0, still Nacked."
+#[tactic(auto, using(faces::specs::Laws::Set::has_face_lem, crate::specs::Laws::Change::view_nacking_none))]
 pub fn mark_nacked(head: &Head, recs: &mut Records, face: usize, reason: u64)
     ensures { (nm : List ℕ) → after nm (shown head) (lent recs) ≡ with_nack face reason (before nm (shown head) (lent recs)) }
 {
     if has(head[SENT], face) {
-        has_all_records(*recs);
-        let r = recs[face - 1];
-        recs[face - 1] = [
-            r[NONCE],
-            r[EXPIRY],
-            r[SENT_NONCE],
-            r[SENT_TIME],
-            nack_word(reason),
-        ];
+        let own = &mut recs[face - 1];
+        own[NACK] = nack_word(reason);
     }
 }
 
 // The faces with a request.
+#[tactic(auto, using(crate::specs::Laws::Change::view_asking_faces))]
 pub fn asking_faces(head: &Head, recs: &Records) -> u64
     ensures { (nm : List ℕ) → result ≡ asking_faces most_faces (before nm (shown head) (shown recs)) }
 {
@@ -203,6 +153,7 @@ pub fn asking_faces(head: &Head, recs: &Records) -> u64
 }
 
 // The faces with an out-record.
+#[tactic(auto, using(crate::specs::Laws::Change::view_sent_faces))]
 pub fn sent_faces(head: &Head, recs: &Records) -> u64
     ensures { (nm : List ℕ) → result ≡ sent_faces most_faces (before nm (shown head) (shown recs)) }
 {
@@ -210,6 +161,7 @@ pub fn sent_faces(head: &Head, recs: &Records) -> u64
 }
 
 // The faces of a set without an out-record.
+#[tactic(auto, using(crate::specs::Laws::Change::view_unsent))]
 pub fn unsent(head: &Head, recs: &Records, set: u64) -> u64
     ensures { (nm : List ℕ) → result ≡ unsent_of most_faces set (before nm (shown head) (shown recs)) }
 {
@@ -217,6 +169,7 @@ pub fn unsent(head: &Head, recs: &Records, set: u64) -> u64
 }
 
 // Whether there are no requests: the size of their set is 0.
+#[tactic(auto, using(crate::specs::Laws::Change::view_idle))]
 pub fn is_idle(head: &Head, recs: &Records) -> bool
     ensures { (nm : List ℕ) → result ≡ is_idle (before nm (shown head) (shown recs)) }
 {
@@ -224,32 +177,33 @@ pub fn is_idle(head: &Head, recs: &Records) -> bool
 }
 
 // Whether a face's own request has a nonce.
+#[tactic(auto, using(faces::specs::Laws::Set::has_face_lem, crate::specs::Laws::Change::view_own_nonce))]
 pub fn own_nonce(head: &Head, recs: &Records, face: usize, nonce: u64) -> bool
     ensures { (nm : List ℕ) → result ≡ own_nonce face nonce (before nm (shown head) (shown recs)) }
 {
-    if has(head[ASKING], face) {
-        return recs[face - 1][NONCE] == nonce;
-    }
-    false
+    has(head[ASKING], face) && recs[face - 1][NONCE] == nonce
 }
 
 // Whether a face has an out-record with a nonce.
+#[tactic(auto, using(faces::specs::Laws::Set::has_face_lem, crate::specs::Laws::Change::view_sent_nonce))]
 pub fn sent_nonce(head: &Head, recs: &Records, face: usize, nonce: u64) -> bool
     ensures { (nm : List ℕ) → result ≡ sent_nonce face nonce (before nm (shown head) (shown recs)) }
 {
-    if has(head[SENT], face) {
-        return recs[face - 1][SENT_NONCE] == nonce;
-    }
-    false
+    has(head[SENT], face) && recs[face - 1][SENT_NONCE] == nonce
 }
 
-// A face's request.
-pub fn request_of(head: &Head, recs: &Records, face: usize) -> Asked
+// A face's request, if there is one.
+#[tactic(auto, using(faces::specs::Laws::Set::has_face_lem))]
+pub fn request_of(head: &Head, recs: &Records, face: usize) -> Option<Asked>
     ensures { (nm : List ℕ) → request_in result ≡ slot face (before nm (shown head) (shown recs)).requests }
 {
     if has(head[ASKING], face) {
-        Asked::Is(recs[face - 1][NONCE], recs[face - 1][EXPIRY])
+        let own = &recs[face - 1];
+        Some(Asked {
+            nonce: own[NONCE],
+            expiry: own[EXPIRY],
+        })
     } else {
-        Asked::None
+        None
     }
 }

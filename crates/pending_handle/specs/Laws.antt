@@ -1,3 +1,4 @@
 pub mod Due
 pub mod Same
 pub mod Reason
+pub mod Held

@@ -1,17 +1,22 @@
 -- One outcome for each input of each public function: any two that its contract admits are equal, or have the rows in the same order at
 -- exit.
 -- Assumes nothing.
-use mathlib.Core.Path.{◌≡◌, sym, ◌∙◌}
+use mathlib.Core.Path.{◌≡◌, sym, ap, ◌∙◌}
 use contract.Lifetimes.{Lfts}
 use denote.Triple.Clauses.{AtExit}
 use borrow.Fn.Kinds.{Dens, ended_of, res_t}
 use Rattle.sizes.specs.Sizes.{most_entries}
 use Rattle.pending_order.specs.Order.{rows_of}
+use Rattle.pending_order.specs.Places.Gives.{gives_one}
 use Rattle.pending_order.specs.Laws.Free.{opens_one}
 use Rattle.pending_order.proofs.has.Kinds as has-kinds
 use Rattle.pending_order.proofs.has.Reads as has-reads
 use Rattle.pending_order.proofs.remove.Kinds as remove-kinds
 use Rattle.pending_order.proofs.remove.Reads as remove-reads
+use Rattle.pending_order.proofs.RowWalk.of.Kinds as of-kinds
+use Rattle.pending_order.proofs.RowWalk.of.Reads as of-reads
+use Rattle.pending_order.proofs.RowWalkIterator.next.Kinds as next-kinds
+use Rattle.pending_order.proofs.RowWalkIterator.next.Reads as next-reads
 use Rattle.pending_order.proofs.kept.Kinds as kept-kinds
 use Rattle.pending_order.proofs.kept.Reads as kept-reads
 use Rattle.pending_order.proofs.better_row.Kinds as better-row-kinds
@@ -40,6 +45,18 @@ pub remove_one : (κs : Lfts 0) (a : Dens κs remove-kinds.ps) (x y : (res_t rem
     (s t : AtExit (ended_of 0 remove-kinds.ps remove-kinds.r) κs)
     → remove-reads.Post κs a x s → remove-reads.Post κs a y t → x ≡ y
 remove_one κs a x y s t p q = p ∙ sym q
+
+-- two walks over the rows of a set are the same
+pub of_one : (κs : Lfts 0) (a : Dens κs of-kinds.ps) (x y : (res_t of-kinds.r κs).Denot)
+    (s t : AtExit (ended_of 0 of-kinds.ps of-kinds.r) κs)
+    → of-reads.Post κs a x s → of-reads.Post κs a y t → x ≡ y
+of_one κs a x y s t p q = ap (λ l. record { left = l }) (p ∙ sym q)
+
+-- two next rows of a walk are the same, and leave the same rows
+pub next_one : (κs : Lfts 1) (a : Dens κs next-kinds.ps) (x y : (res_t next-kinds.r κs).Denot)
+    (s t : AtExit (ended_of 1 next-kinds.ps next-kinds.r) κs)
+    → next-reads.Post κs a x s → next-reads.Post κs a y t → (x ≡ y) × (s.0.now.left ≡ t.0.now.left)
+next_one κs a x y s t p q = gives_one a.0.now x y p.0 q.0
 
 -- two sets with or without a row are the same
 pub kept_one : (κs : Lfts 0) (a : Dens κs kept-kinds.ps) (x y : (res_t kept-kinds.r κs).Denot)

@@ -1,3 +1,4 @@
 pub mod Pass
 pub mod Works
 pub mod Lowering
+pub mod Turns

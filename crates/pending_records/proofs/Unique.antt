@@ -75,13 +75,13 @@ all_nacked_one κs a x y s t p q = nacks_same x y (p [] ∙ sym (q []))
 -- two outcomes of an entry that leaves have the same lines
 pub bury_one : (κs : Lfts 4) (a : Dens κs bury-kinds.ps) (x y : (res_t bury-kinds.r κs).Denot)
     (s t : AtExit (ended_of 4 bury-kinds.ps bury-kinds.r) κs)
-    → bury-reads.Post κs a x s → bury-reads.Post κs a y t → dead.view s.1.1.1.0.now x ≡ dead.view t.1.1.1.0.now y
+    → bury-reads.Post κs a x s → bury-reads.Post κs a y t → dead.view s.1.1.1.0.now ≡ dead.view t.1.1.1.0.now
 bury_one κs a x y s t p q = p ∙ sym q
 
 -- two outcomes of a face's out-record that goes have the same lines
 pub bury_face_one : (κs : Lfts 4) (a : Dens κs bury-face-kinds.ps) (x y : (res_t bury-face-kinds.r κs).Denot)
     (s t : AtExit (ended_of 4 bury-face-kinds.ps bury-face-kinds.r) κs)
-    → bury-face-reads.Post κs a x s → bury-face-reads.Post κs a y t → dead.view s.1.1.1.0.now x ≡ dead.view t.1.1.1.0.now y
+    → bury-face-reads.Post κs a x s → bury-face-reads.Post κs a y t → dead.view s.1.1.1.0.now ≡ dead.view t.1.1.1.0.now
 bury_face_one κs a x y s t p q = p ∙ sym q
 
 -- requests noted

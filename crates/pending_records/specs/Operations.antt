@@ -1,8 +1,8 @@
 -- What is asked of an entry's records, the lines that it buries and the rows that tell what became of its requests.
 -- Assumes nothing.
-use Rattle.std.specs.Prelude.{ℕ, ◌≡◌, Bool, not, List, [], ◌∷◌, map}
+use Rattle.std.specs.declared.option.Option as code
+use Rattle.std.specs.Prelude.{ℕ, ◌≡◌, Bool, not, List, [], ◌∷◌, map, None, Some}
 use Rattle.std.proofs.Math.Option.{Option, none, some}
-use Rattle.rows.specs.Lent.{Lent}
 use Rattle.laws.specs.Pick.{pick}
 use Rattle.sizes.specs.Sizes.{most_dead}
 use Rattle.faces.specs.Set.{has_face, faces_where}
@@ -11,20 +11,19 @@ use Rattle.records.specs.Entry.{Entry, is_live, all_nacked, smallest_reason}
 use Rattle.records.specs.Line.{Line, joined_all}
 use Rattle.records.specs.Happening.{Fate, happens}
 use Rattle.records.specs.Rows.{row_of}
-use Rattle.dead.specs.declared.Ring.{Ring}
+use Rattle.dead.specs.declared.Dead.{Dead}
 use Rattle.dead.specs.Places.View as dead
 use Rattle.happenings.specs.declared.Fate as told
 use Rattle.happenings.specs.Noted.{fate_in}
-use Rattle.pending_records.specs.declared.Nacks.{Nacks}
 
 -- the faces whose requests are over
 unfoldable pub overdue_faces : ℕ → ℕ → Entry → ℕ
 overdue_faces n now e = faces_where n (λ f. holds (λ r. not (is_live now r)) (slot f e.requests))
 
 -- the reason that an answer tells
-unfoldable pub nacks_in : Nacks → Option ℕ
-nacks_in Nacks.Open = none
-nacks_in (Nacks.All r) = some r
+unfoldable pub nacks_in : code.Option ℕ → Option ℕ
+nacks_in None = none
+nacks_in (Some r) = some r
 
 -- the reason that goes on, where all out-records are Nacked
 unfoldable pub nacks_of : Entry → Option ℕ
@@ -50,6 +49,6 @@ noted_split n set special own fate now e = noted_by (fate_by n special own fate)
 unfoldable pub noted_one : Fate → ℕ → ℕ → Entry → List (List ℕ)
 noted_one x now f e = given [] (λ r. row_of (happens x now e (record { face = f; what = r })) ∷ []) (slot f e.requests)
 
--- lines that join the dead nonce list that a function was lent, with its answer
-abbrev pub Joins : Lent (List (List ℕ)) → Ring → Ring → List Line → Type 0
-Joins lines r ring news = dead.view lines.exit r ≡ joined_all most_dead (dead.view lines.entry ring) news
+-- lines that join the dead nonce list, from one memory of it to another
+abbrev pub Joins : Dead → Dead → List Line → Type 0
+Joins d e news = dead.view e ≡ joined_all most_dead (dead.view d) news

@@ -2,79 +2,64 @@
 // that gets smaller.
 #![tactic(auto)]
 
-ghost use Rattle.std.specs.Prelude.{◌≡◌, ◌&&◌, List, ℕ, ◌-◌, max, ◌<◌, ◌≤◌, eqb, ltb, length, get_or};
+ghost use Rattle.std.specs.Prelude.{◌≡◌, ◌&&◌, List, ℕ, ◌<◌, ◌≤◌, eqb};
 ghost use Rattle.laws.specs.Lists.{any_of};
 ghost use Rattle.laws.specs.Pick.{pick};
 ghost use Rattle.names.specs.Fingerprint.{fingerprint};
-ghost use Rattle.sizes.specs.Sizes.{most_faces, resend_time};
+ghost use Rattle.sizes.specs.Sizes.{most_faces};
 ghost use Rattle.faces.specs.Set.{has_face, with_face, faces_where};
 ghost use Rattle.faces.specs.Slots.{slots_of};
 ghost use Rattle.records.specs.Slots.{given, held};
 ghost use Rattle.records.specs.Entry.{aged_entry, has_nonce, is_suppressed, newest_of, earliest_of, lesser_reason};
 ghost use Rattle.records.specs.Ageing.{buried_by};
-ghost use Rattle.happenings.specs.Noted.{most_rows, fate_in, Noted};
-ghost use Rattle.pending_entry.specs.Places.View.{request_at, before, after};
+ghost use Rattle.happenings.specs.Noted.{fate_in, Noted};
+ghost use Rattle.pending_entry.specs.Places.View.{before, after};
 ghost use Rattle.pending_records.specs.Operations.{overdue_faces, nacks_in, nacks_of, noted, noted_split, noted_one, Joins};
 ghost use Rattle.records.specs.Closing.{own_line_by};
 ghost use Rattle.rows.specs.Lent.{lent, shown};
-ghost use Rattle.pending_records.specs.Places.Walk.{is_over, column_at, newest_in, sent_in, earlier_face, rows_of};
+ghost use Rattle.pending_records.specs.Places.Walk.{is_over, column_at, newest_in, sent_in, earlier_face};
 
-use dead::{Lines, Ring, join};
-use faces::{add, common, has, less, lowest, remove};
-use happenings::{Fate, Rows, note, number};
+use dead::Dead;
+use faces::{Walk, add, common, has, less};
+use happenings::{Fate, Rows, note};
 use names::fingerprint_from;
 use pending_entry::{
-    ASKING, CLASS, EXPIRY, FRESH, Head, LENGTH, NACK, NONCE, PREFIX, Records, SENT, SENT_NONCE,
-    SENT_TIME, reason_of,
+    ASKING, CLASS, EXPIRY, Head, LENGTH, NACK, NONCE, Records, SENT, SENT_NONCE, SENT_TIME,
+    reason_of,
 };
 use rows::part;
-use sizes::{FACES, NAME};
+use sizes::NAME;
 
 // "sent under 100 ms ago"
 const RESEND: u64 = 100;
 
-// When the newest out-record was sent, if there is one.
-#[derive(Clone, Copy)]
-enum Newest {
-    None,
-    At(u64),
-}
-
-// Whether all out-records are Nacked, and then the reason that goes on.
-#[derive(Clone, Copy)]
-pub enum Nacks {
-    Open,
-    All(u64),
-}
-
 // The set with a face more, if the face's request is over: "A request lives while time < arrival + lifetime".
+#[tactic(auto, unfolding(crate::specs::Places::Walk::is_over, laws::specs::Pick::pick))]
 fn with_over(over: u64, recs: &Records, f: usize, time: u64) -> u64
     requires is_face { 1 ≤ f }
     requires face_within { f ≤ most_faces }
     ensures { result ≡ pick (is_over time recs.now f) (with_face most_faces over f) over }
 {
     if time < recs[f - 1][EXPIRY] {
-        return over;
+        over
+    } else {
+        add(over, f)
     }
-    add(over, f)
 }
 
 // The faces of a set whose requests are over.
 fn over_in(set: u64, recs: &Records, time: u64) -> u64
     ensures { result ≡ faces_where most_faces (λ f. has_face most_faces set f && is_over time recs.now f) }
 {
-    let mut over: u64 = 0;
-    let mut left = set;
-    let mut f = lowest(left);
-    while f <= FACES {
+    let mut over = 0;
+    for f in Walk::of(set) {
         over = with_over(over, recs, f, time);
-        left = remove(left, f);
-        f = lowest(left);
     }
     over
 }
 
 // The faces whose requests are over.
+#[tactic(auto, using(crate::specs::Laws::Over::view_overdue))]
 pub fn overdue(head: &Head, recs: &Records, time: u64) -> u64
     ensures { (nm : List ℕ) → result ≡ overdue_faces most_faces time (before nm (shown head) (shown recs)) }
 {
@@ -86,16 +71,8 @@ pub fn age(head: &mut Head, recs: &Records, time: u64) -> u64
     ensures aged { (nm : List ℕ) → after nm (lent head) (shown recs) ≡ aged_entry time (before nm (lent head) (shown recs)) }
     ensures overdue { (nm : List ℕ) → result ≡ overdue_faces most_faces time (before nm (lent head) (shown recs)) }
 {
-    let h = *head;
-    let over = over_in(h[ASKING], recs, time);
-    *head = [
-        h[LENGTH],
-        h[PREFIX],
-        h[FRESH],
-        h[CLASS],
-        less(h[ASKING], over),
-        h[SENT],
-    ];
+    let over = over_in(head[ASKING], recs, time);
+    head[ASKING] = less(head[ASKING], over);
     over
 }
 
@@ -104,74 +81,35 @@ fn column_has(set: u64, recs: &Records, column: usize, nonce: u64) -> bool
     requires { column < 5 }
     ensures { result ≡ any_of (λ h. eqb h.what nonce) (held (slots_of most_faces set (column_at recs.now column))) }
 {
-    let mut left = set;
-    let mut f = lowest(left);
-    while f <= FACES {
-        if recs[f - 1][column] == nonce {
-            return true;
-        }
-        left = remove(left, f);
-        f = lowest(left);
-    }
-    false
+    Walk::of(set).any(|f| recs[f - 1][column] == nonce)
 }
 
 // Whether a nonce stands in some in-record or out-record.
+#[tactic(auto, using(crate::specs::Laws::Nonce::view_nonce))]
 pub fn has_nonce(head: &Head, recs: &Records, nonce: u64) -> bool
     ensures { (nm : List ℕ) → result ≡ has_nonce nonce (before nm (shown head) (shown recs)) }
 {
-    if column_has(head[ASKING], recs, NONCE, nonce) {
-        return true;
-    }
-    column_has(head[SENT], recs, SENT_NONCE, nonce)
-}
-
-// The later of two times.
-fn later(a: u64, b: u64) -> u64
-    ensures { result ≡ max a b }
-{
-    if a < b { b } else { a }
+    column_has(head[ASKING], recs, NONCE, nonce) || column_has(head[SENT], recs, SENT_NONCE, nonce)
 }
 
 // When the newest out-record of the faces of a set was sent.
-fn newest_time(set: u64, recs: &Records) -> Newest
+fn newest_time(set: u64, recs: &Records) -> Option<u64>
     ensures { newest_in result ≡ newest_of (sent_in most_faces set recs.now) }
 {
-    let mut left = set;
-    let mut f = lowest(left);
-    if FACES < f {
-        return Newest::None;
-    }
-    let mut newest: u64 = 0;
-    while f <= FACES {
-        newest = later(newest, recs[f - 1][SENT_TIME]);
-        left = remove(left, f);
-        f = lowest(left);
-    }
-    Newest::At(newest)
-}
-
-// Whether a time was under 100 ms ago; one still to come was.
-fn is_recent(sent: u64, time: u64) -> bool
-    ensures { result ≡ ltb (time - sent) resend_time }
-{
-    if time < sent {
-        return true;
-    }
-    time - sent < RESEND
+    Walk::of(set).map(|f| recs[f - 1][SENT_TIME]).max()
 }
 
 // "If the newest out-record was sent under 100 ms ago, send nothing."
 pub fn is_suppressed(head: &Head, recs: &Records, time: u64) -> bool
     ensures { (nm : List ℕ) → result ≡ is_suppressed time (before nm (shown head) (shown recs)) }
 {
-    match newest_time(head[SENT], recs) {
-        Newest::None => false,
-        Newest::At(sent) => is_recent(sent, time),
-    }
+    // A time still to come counts as now.
+    newest_time(head[SENT], recs).is_some_and(|sent| time.saturating_sub(sent) < RESEND)
 }
 
-// The face with the earlier out-record: the best so far, 0 where there is none, or another face.
+// The face with the earlier out-record: the best so far, or another face. 0 is no face's number, so that it stands for none here as in what
+// `earliest` answers.
+#[tactic(auto, unfolding(crate::specs::Places::Walk::earlier_face, pending_entry::specs::Places::View::sent_at, laws::specs::Pick::pick))]
 fn earlier(recs: &Records, best: usize, f: usize) -> usize
     requires best_within { best ≤ most_faces }
     requires is_face { 1 ≤ f }
@@ -179,60 +117,47 @@ fn earlier(recs: &Records, best: usize, f: usize) -> usize
     ensures earlier { result ≡ earlier_face recs.now best f }
     ensures within { result ≤ most_faces }
 {
-    if best == 0 {
-        return f;
+    if best == 0 || recs[f - 1][SENT_TIME] < recs[best - 1][SENT_TIME] {
+        f
+    } else {
+        best
     }
-    if recs[f - 1][SENT_TIME] < recs[best - 1][SENT_TIME] {
-        return f;
-    }
-    best
 }
 
 // The face of a set with the earliest out-record, "ties to the lower face"; 0 where none has one.
 pub fn earliest(head: &Head, recs: &Records, set: u64) -> usize
     ensures { (nm : List ℕ) → result ≡ given 0 (λ f. f) (earliest_of (has_face most_faces set) (before nm (shown head) (shown recs))) }
 {
-    let mut best: usize = 0;
-    let mut left = common(head[SENT], set);
-    let mut f = lowest(left);
-    while f <= FACES {
+    let mut best = 0;
+    for f in Walk::of(common(head[SENT], set)) {
         best = earlier(recs, best, f);
-        left = remove(left, f);
-        f = lowest(left);
     }
     best
 }
 
 // The smaller of two reasons that is not 0, or 0.
+#[tactic(auto, unfolding(records::specs::Entry::lesser_reason, laws::specs::Pick::pick))]
 fn lesser(a: u64, b: u64) -> u64
     ensures { result ≡ lesser_reason a b }
 {
-    if a == 0 {
-        return b;
+    match (a, b) {
+        (0, _) => b,
+        (_, 0) => a,
+        _ => a.min(b),
     }
-    if b == 0 {
-        return a;
-    }
-    if b < a { b } else { a }
 }
 
-// Whether all out-records are Nacked, and then "the smallest nonzero reason, or 0".
-pub fn all_nacked(head: &Head, recs: &Records) -> Nacks
+// Where all out-records are Nacked, "the smallest nonzero reason, or 0".
+pub fn all_nacked(head: &Head, recs: &Records) -> Option<u64>
     ensures { (nm : List ℕ) → nacks_in result ≡ nacks_of (before nm (shown head) (shown recs)) }
 {
-    let mut reason: u64 = 0;
-    let mut left = head[SENT];
-    let mut f = lowest(left);
-    while f <= FACES {
-        let nack = recs[f - 1][NACK];
-        if nack == 0 {
-            return Nacks::Open;
-        }
-        reason = lesser(reason, reason_of(nack - 1));
-        left = remove(left, f);
-        f = lowest(left);
+    let mut reason = 0;
+    for f in Walk::of(head[SENT]) {
+        // A word that is 0 is no Nack's, any other the reason and 1.
+        let nacked = recs[f - 1][NACK].checked_sub(1)?;
+        reason = lesser(reason, reason_of(nacked));
     }
-    Nacks::All(reason)
+    Some(reason)
 }
 
 // The entry leaves: "the fingerprint of its name with each out-record's nonce, by face, joins the dead nonce list with the time now". The
@@ -241,119 +166,41 @@ pub fn bury(
     name: &[u8; NAME],
     head: &Head,
     recs: &Records,
-    lines: &mut Lines,
-    ring: Ring,
+    nonces: &mut Dead,
     start: u64,
     time: u64,
-) -> Ring
-    ensures { Joins (lent lines) result ring (buried_by (fingerprint start) time (before name.now (shown head) (shown recs))) }
+)
+    ensures { Joins nonces.old nonces.new (buried_by (fingerprint start) time (before name.now (shown head) (shown recs))) }
 {
     let own = part(name, head[LENGTH]);
-    let mut ring = ring;
-    let mut left = head[SENT];
-    let mut f = lowest(left);
-    while f <= FACES {
+    for f in Walk::of(head[SENT]) {
         let print = fingerprint_from(start, own, recs[f - 1][SENT_NONCE]);
-        ring = join(lines, ring, print, time);
-        left = remove(left, f);
-        f = lowest(left);
+        nonces.join(print, time);
     }
-    ring
 }
 
 // A face closes: "the face's out-record goes, its fingerprint joining the dead list".
+#[tactic(auto, using(faces::specs::Laws::Set::has_face_lem))]
 pub fn bury_face(
     name: &[u8; NAME],
     head: &Head,
     recs: &Records,
-    lines: &mut Lines,
-    ring: Ring,
+    nonces: &mut Dead,
     start: u64,
     time: u64,
     face: usize,
-) -> Ring
-    ensures { Joins (lent lines) result ring (own_line_by (fingerprint start) time face (before name.now (shown head) (shown recs))) }
+)
+    ensures { Joins nonces.old nonces.new (own_line_by (fingerprint start) time face (before name.now (shown head) (shown recs))) }
 {
     if has(head[SENT], face) {
         let own = part(name, head[LENGTH]);
         let print = fingerprint_from(start, own, recs[face - 1][SENT_NONCE]);
-        return join(lines, ring, print, time);
+        nonces.join(print, time);
     }
-    ring
 }
 
-// The rows are all there. It is said of a value, since of what stands behind a reference no length is known.
-fn has_all_rows(rows: Rows)
-    ensures { length rows ≡ most_rows }
-{}
-
-// The first number for a face of a set, the second for another.
-fn choose(set: u64, f: usize, a: u64, b: u64) -> u64
-    ensures { result ≡ pick (has_face most_faces set f) a b }
-{
-    if has(set, f) { a } else { b }
-}
-
-// Notes the request of each face of a set, the lowest face first: with the fate `own` for the faces of `special`, with `fate` for others.
-fn note_words(
-    set: u64,
-    recs: &Records,
-    rows: &mut Rows,
-    at: usize,
-    class: u64,
-    special: u64,
-    own: u64,
-    fate: u64,
-) -> usize
-    ensures { Noted (lent rows) result at (rows_of most_faces class (λ f. pick (has_face most_faces special f) own fate) set recs.now) }
-{
-    has_all_rows(*rows);
-    let mut left = set;
-    let mut next = at;
-    let mut f = lowest(left);
-    while f <= FACES {
-        let word = choose(special, f, own, fate);
-        next = note(
-            rows,
-            next,
-            f,
-            class,
-            word,
-            recs[f - 1][NONCE],
-            recs[f - 1][EXPIRY],
-        );
-        left = remove(left, f);
-        f = lowest(left);
-    }
-    next
-}
-
-// Notes what became of the requests of the entry on the faces of a set, the lowest face first.
-pub fn note_requests(
-    head: &Head,
-    recs: &Records,
-    rows: &mut Rows,
-    at: usize,
-    set: u64,
-    fate: Fate,
-) -> usize
-    ensures { (nm : List ℕ) (t : ℕ) → Noted (lent rows) result at (noted (fate_in fate) t (has_face most_faces set) (before nm (shown head)
-        (shown recs))) }
-{
-    let word = number(fate);
-    note_words(
-        common(head[ASKING], set),
-        recs,
-        rows,
-        at,
-        head[CLASS],
-        0,
-        word,
-        word,
-    )
-}
-
-// The same with two fates: `own` for the faces of a set `special`, `fate` for the others.
+// Notes what became of the requests of the entry on the faces of a set, the lowest face first: `own` for the faces of a set `special`,
+// `fate` for the others.
 pub fn note_by_face(
     head: &Head,
     recs: &Records,
@@ -367,21 +214,32 @@ pub fn note_by_face(
     ensures { (nm : List ℕ) (t : ℕ) → Noted (lent rows) result at (noted_split most_faces set special own fate t (before nm (shown head)
         (shown recs))) }
 {
-    let a = number(own);
-    let b = number(fate);
-    note_words(
-        common(head[ASKING], set),
-        recs,
-        rows,
-        at,
-        head[CLASS],
-        special,
-        a,
-        b,
-    )
+    let mut next = at;
+    for f in Walk::of(common(head[ASKING], set)) {
+        let told = if has(special, f) { own } else { fate };
+        let row = &recs[f - 1];
+        next = note(rows, next, f, head[CLASS], told, row[NONCE], row[EXPIRY]);
+    }
+    next
+}
+
+// Notes what became of the requests of the entry on the faces of a set, the lowest face first, all with one fate.
+pub fn note_requests(
+    head: &Head,
+    recs: &Records,
+    rows: &mut Rows,
+    at: usize,
+    set: u64,
+    fate: Fate,
+) -> usize
+    ensures { (nm : List ℕ) (t : ℕ) → Noted (lent rows) result at (noted (fate_in fate) t (has_face most_faces set) (before nm (shown head)
+        (shown recs))) }
+{
+    note_by_face(head, recs, rows, at, set, 0, fate, fate)
 }
 
 // Notes what became of a face's request, if it has one.
+#[tactic(auto, using(faces::specs::Laws::Set::has_face_lem))]
 pub fn note_face(
     head: &Head,
     recs: &Records,
@@ -393,16 +251,9 @@ pub fn note_face(
     ensures { (nm : List ℕ) (t : ℕ) → Noted (lent rows) result at (noted_one (fate_in fate) t face (before nm (shown head) (shown recs))) }
 {
     if has(head[ASKING], face) {
-        let r = recs[face - 1];
-        return note(
-            rows,
-            at,
-            face,
-            head[CLASS],
-            number(fate),
-            r[NONCE],
-            r[EXPIRY],
-        );
+        let row = &recs[face - 1];
+        note(rows, at, face, head[CLASS], fate, row[NONCE], row[EXPIRY])
+    } else {
+        at
     }
-    at
 }

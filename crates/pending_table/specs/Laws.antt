@@ -2,3 +2,4 @@ pub mod Row
 pub mod Room
 pub mod Same
 pub mod Handle
+pub mod Held

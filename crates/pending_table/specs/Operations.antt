@@ -9,7 +9,6 @@ use Rattle.records.specs.Entry.{Entry, used_by}
 use Rattle.pending_order.specs.Order.{place_without}
 use Rattle.pending_table.specs.declared.Handle.{Handle}
 use Rattle.pending_table.specs.declared.Chosen.{Chosen}
-use Rattle.pending_table.specs.declared.Opened.{Opened}
 use Rattle.pending_table.specs.declared.Facts.{Facts}
 use Rattle.pending_table.specs.declared.Uses.{Uses}
 
@@ -23,11 +22,11 @@ unfoldable pub fits_table : Entry → List Entry → Bool
 fits_table e es = leb (length e.name) most_name && ltb (length es) most_entries
 
 -- an entry opened, after the others, if it fits; the handle is its own, else that of no entry; other entries and marks stay where they are
-pub record Opens (r : Opened) (e : Entry) (before after : List Entry) (was stands : Handle → ℕ)
+pub record Opens (r : Handle) (e : Entry) (before after : List Entry) (was stands : Handle → ℕ)
     (marked marks : Chosen → List Bool) : Type 0 where
-  pub said : r.fits ≡ fits_table e before
+  pub said : ltb (stands r) (length after) ≡ fits_table e before
   pub left : after ≡ pick (fits_table e before) (before ++ (e ∷ [])) before
-  pub last : stands r.handle ≡ length before
+  pub last : stands r ≡ length before
   pub others : (h : Handle) → was h < length before → stands h ≡ was h
   pub chosen : (c : Chosen) → take (length before) (marks c) ≡ marked c
 

@@ -1,32 +1,30 @@
 // The pending table: entries in the order of opening, in rows that stay in place. An entry is told by a handle.
 //
-// Nobody above reads a field of `Pending`, `Handle` or `Chosen`: contracts speak of the entries, of a handle's place among them and of
-// marks.
+// Nobody above but `pending_handle` reads a field of `Pending`, `Handle` or `Chosen`: contracts speak of the entries, of a handle's place
+// among them and of marks.
 #![tactic(auto)]
 
-ghost use Rattle.std.specs.Prelude.{◌≡◌, true, false, List, [], ◌∷◌, ◌++◌, map, ℕ, ◌+◌, ◌≤◌, length, leb, ltb, eqb};
+ghost use Rattle.std.specs.Prelude.{◌≡◌, true, false, List, [], ◌∷◌, ◌++◌, map, ℕ, ◌+◌, ◌<◌, ◌≤◌, length, leb, ltb, eqb, IfSome};
 ghost use Rattle.std.specs.Bool.{beq};
 ghost use Rattle.laws.specs.Lists.{on_at, index_of};
-ghost use Rattle.sizes.specs.Sizes.{most_faces, most_entries, most_name};
+ghost use Rattle.sizes.specs.Sizes.{most_faces, most_entries};
 ghost use Rattle.records.specs.Class.{class_of};
 ghost use Rattle.records.specs.Slots.{given};
 ghost use Rattle.records.specs.Entry.{is_known, matches, room_taken};
-ghost use Rattle.rows.specs.Lent.{lent, shown};
 ghost use Rattle.pending_entry.specs.Places.View as entry;
 ghost use Rattle.pending_entry.specs.Operations.{bare_entry};
-ghost use Rattle.pending_table.specs.Places.View.{view, before, after, entry_at, row_held, place_of, place_then, handle_of, marks_of};
-ghost use Rattle.pending_table.specs.Places.View.{marks_then};
+ghost use Rattle.pending_table.specs.Places.View.{view, state, row_held, place_of, entry_at, handle_of, marks_of};
 ghost use Rattle.pending_table.specs.Places.Room.{counting, all_of, room_of};
 ghost use Rattle.pending_table.specs.Operations.{Finds, Opens, TakesOut, nothing, facts_of, uses_of};
 
 use names::{is_prefix, same};
 use pending_entry::{CLASS, FRESH, Head, LENGTH, PREFIX, bare};
-use pending_order::{Numbers, better_row, free, has, kept, larger, least, open_row, remove};
+use pending_order::{Numbers, RowWalk, better_row, free, has, kept, least, open_row, remove};
 use rows::part;
 use sizes::{ENTRIES, FACES, NAME};
-use wire::{Put, put_bytes};
+use wire::put_bytes;
 
-// "Name at most .. 255 bytes": the names, lent by the caller.
+// "Name at most .. 255 bytes": the names.
 pub type Names = [[u8; NAME]; ENTRIES];
 
 // A row of the names: the name is as many of its bytes as the entry's head says.
@@ -36,7 +34,7 @@ type Row = [u8; NAME];
 pub type Heads = [Head; ENTRIES];
 
 // The records of each entry, as `pending_entry` has them.
-pub type Records = [[[u64; 5]; FACES]; ENTRIES];
+pub type Records = [pending_entry::Records; ENTRIES];
 
 // "Their reserves are 24, 16 and 8."
 const ALARM_RESERVE: u64 = 24;
@@ -45,34 +43,30 @@ const MONITORING_RESERVE: u64 = 16;
 
 const BULK_RESERVE: u64 = 8;
 
-// The small state of the table: the rows that are used, a bit each.
-#[derive(Clone, Copy)]
+// The table: for each row a name, a head, records and the number of its opening; and the rows that are used, a bit each.
 pub struct Pending {
+    pub names: Names,
+    pub heads: Heads,
+    pub recs: Records,
+    pub numbers: Numbers,
     pub used: u64,
 }
 
-// An entry of the table, or none: its row.
-#[derive(Clone, Copy)]
+// An entry of the table, or none: its row. A row past the last stands for none, since `Finds`, `Opens` and `TakesOut` give each handle a
+// place.
+#[derive(Clone, Copy, Debug, PartialEq, Eq)]
 pub struct Handle {
     pub row: usize,
 }
 
 // A choice of entries: their rows, a bit each.
-#[derive(Clone, Copy)]
+#[derive(Clone, Copy, Debug, PartialEq, Eq)]
 pub struct Chosen {
     pub rows: u64,
 }
 
-// Whether an entry was opened, the table then, and the entry's handle.
-#[derive(Clone, Copy)]
-pub struct Opened {
-    pub fits: bool,
-    pub pending: Pending,
-    pub handle: Handle,
-}
-
-// What an entry is known by beside its name, and its class word.
-#[derive(Clone, Copy)]
+// What an entry is known by beside its name, and its class word: a number, since one that is no class is kept and counted as well.
+#[derive(Clone, Copy, Debug, Default, PartialEq, Eq)]
 pub struct Facts {
     pub prefix: bool,
     pub fresh: bool,
@@ -80,7 +74,7 @@ pub struct Facts {
 }
 
 // How many entries each class has; `other` counts those whose class word is no class.
-#[derive(Clone, Copy)]
+#[derive(Clone, Copy, Debug, Default, PartialEq, Eq)]
 pub struct Uses {
     pub alarm: u64,
     pub monitoring: u64,
@@ -88,26 +82,11 @@ pub struct Uses {
     pub other: u64,
 }
 
-// A table without entries, whatever the memory holds.
-pub fn empty() -> Pending
-    ensures { (names heads : List (List ℕ)) (recs : List (List (List ℕ))) (numbers : List ℕ)
-        → view names heads recs numbers result ≡ [] }
-{
-    Pending { used: 0 }
-}
-
-// How many entries there are.
-pub fn size(names: &Names, heads: &Heads, recs: &Records, numbers: &Numbers, s: Pending) -> usize
-    ensures { result ≡ length (before (shown names) (shown heads) (shown recs) (shown numbers) s) }
-{
-    u64::count_ones(s.used) as usize
-}
-
 // Whether a head's word is that of a flag: 1 is true, any other word is false.
 fn same_flag(word: u64, flag: bool) -> bool
     ensures { result ≡ beq flag (eqb word 1) }
 {
-    if flag { word == 1 } else { word != 1 }
+    flag == (word == 1)
 }
 
 // Whether the entry of a name's row and a head is that of a name and both flags.
@@ -115,197 +94,9 @@ fn is_known(row: &Row, head: &Head, name: &[u8], prefix: bool, fresh: bool) -> b
     ensures { (recs : List (List ℕ))
         → result ≡ is_known name.now prefix fresh (entry.view row.now head.now recs) }
 {
-    if same_flag(head[PREFIX], prefix) {
-        if same_flag(head[FRESH], fresh) {
-            return same(name, part(row, head[LENGTH]));
-        }
-    }
-    false
-}
-
-// "An entry is known by name and both flags": its handle, or that of no entry.
-pub fn find(
-    names: &Names,
-    heads: &Heads,
-    recs: &Records,
-    numbers: &Numbers,
-    s: Pending,
-    name: &[u8],
-    prefix: bool,
-    fresh: bool,
-) -> Handle
-    ensures { Finds (place_of (shown numbers) s) (handle_of (shown numbers) s)
-        (index_of (is_known name.now prefix fresh) (before (shown names) (shown heads) (shown recs) (shown numbers) s)) result }
-{
-    let mut left = s.used;
-    let mut best = ENTRIES;
-    let mut row = u64::trailing_zeros(left) as usize;
-    while row < ENTRIES {
-        if is_known(&names[row], &heads[row], name, prefix, fresh) {
-            best = better_row(numbers, best, row);
-            left = remove(left, row);
-            row = u64::trailing_zeros(left) as usize;
-        } else {
-            left = remove(left, row);
-            row = u64::trailing_zeros(left) as usize;
-        }
-    }
-    Handle { row: best }
-}
-
-// The row of a handle's entry, for what stands in that row of the caller's arrays; past the last row where it has none.
-pub fn row_of(s: Pending, h: Handle) -> usize
-    ensures { result ≡ row_held s h }
-{
-    if has(s.used, h.row) {
-        return h.row;
-    }
-    ENTRIES
-}
-
-// Whether a handle has an entry.
-pub fn is_there(
-    names: &Names,
-    heads: &Heads,
-    recs: &Records,
-    numbers: &Numbers,
-    s: Pending,
-    h: Handle,
-) -> bool
-    ensures { result ≡ ltb (place_of (shown numbers) s h) (length (before (shown names) (shown heads) (shown recs) (shown numbers) s)) }
-{
-    has(s.used, h.row)
-}
-
-// A name's row, and the tables, have all their bytes and rows. It is said of values, since of what stands behind a reference no length is
-// known.
-fn has_all_bytes(row: Row)
-    ensures { length row ≡ most_name }
-{}
-
-// The table of names has all its rows.
-fn has_all_names(names: Names)
-    ensures { length names ≡ most_entries }
-{}
-
-// The table of heads has all its rows.
-fn has_all_heads(heads: Heads)
-    ensures { length heads ≡ most_entries }
-{}
-
-// What opening comes to where there is no room: the table as it was, and the handle of no entry.
-fn refused(s: Pending) -> Opened
-    ensures { result ≡ record { fits = false; pending = s; handle = record { row = most_entries } } }
-{
-    Opened {
-        fits: false,
-        pending: s,
-        handle: Handle { row: ENTRIES },
-    }
-}
-
-// A new entry, without records, after the others. A 65th entry, or a name over 255 bytes, changes nothing.
-pub fn open(
-    names: &mut Names,
-    heads: &mut Heads,
-    recs: &Records,
-    numbers: &mut Numbers,
-    s: Pending,
-    name: &[u8],
-    prefix: bool,
-    fresh: bool,
-    class: u64,
-) -> Opened
-    ensures { Opens result (bare_entry most_faces name.now prefix fresh (class_of class))
-        (before (lent names) (lent heads) (shown recs) (lent numbers) s) (after (lent names) (lent heads) (shown recs)
-        (lent numbers) result.pending)
-        (place_of (lent numbers) s) (place_then (lent numbers) result.pending) (marks_of (lent numbers) s) (marks_then
-        (lent numbers) result.pending) }
-{
-    let used = s.used;
-    let row = free(used);
-    if row < ENTRIES {
-        has_all_names(*names);
-        has_all_heads(*heads);
-        has_all_bytes(names[row]);
-        match put_bytes(&mut names[row], 0, name) {
-            Put::Full => {
-                return refused(s);
-            }
-            Put::Next(_) => {
-                heads[row] = bare(name.len() as u64, prefix, fresh, class);
-                let opened = open_row(numbers, used);
-                return Opened {
-                    fits: true,
-                    pending: Pending { used: opened.used },
-                    handle: Handle { row: row },
-                };
-            }
-        }
-    }
-    refused(s)
-}
-
-// Takes the entry of a handle out; a handle of no entry changes nothing.
-pub fn take_out(
-    names: &Names,
-    heads: &Heads,
-    recs: &Records,
-    numbers: &Numbers,
-    s: Pending,
-    h: Handle,
-) -> Pending
-    ensures { TakesOut h (before (shown names) (shown heads) (shown recs) (shown numbers) s) (after (shown names) (shown heads)
-        (shown recs) (shown numbers) result)
-        (place_of (shown numbers) s) (place_then (shown numbers) result) (marks_of (shown numbers) s) (marks_then (shown numbers) result) }
-{
-    Pending {
-        used: remove(s.used, h.row),
-    }
-}
-
-// The name of a handle's entry, where it stands; no bytes where there is none.
-pub fn name_of<'a>(
-    names: &'a Names,
-    heads: &Heads,
-    recs: &Records,
-    numbers: &Numbers,
-    s: Pending,
-    h: Handle,
-) -> &'a [u8]
-    ensures { result.now ≡ given [] (λ e. e.name) (entry_at (shown names) (shown heads) (shown recs) (shown numbers) s h) }
-{
-    let row = row_of(s, h);
-    if row < ENTRIES {
-        return part(&names[row], heads[row][LENGTH]);
-    }
-    part(&names[0], 0)
-}
-
-// The flags and the class word of a handle's entry; false, false and 0, which is no class, where there is none.
-pub fn facts_of(
-    names: &Names,
-    heads: &Heads,
-    recs: &Records,
-    numbers: &Numbers,
-    s: Pending,
-    h: Handle,
-) -> Facts
-    ensures { result ≡ given nothing facts_of (entry_at (shown names) (shown heads) (shown recs) (shown numbers) s h) }
-{
-    let row = row_of(s, h);
-    if row < ENTRIES {
-        return Facts {
-            prefix: heads[row][PREFIX] == 1,
-            fresh: heads[row][FRESH] == 1,
-            class: heads[row][CLASS],
-        };
-    }
-    Facts {
-        prefix: false,
-        fresh: false,
-        class: 0,
-    }
+    same_flag(head[PREFIX], prefix)
+        && same_flag(head[FRESH], fresh)
+        && same(name, part(row, head[LENGTH]))
 }
 
 // "Data matches an entry of equal name, or with CanBePrefix and a name that is its prefix."
@@ -313,150 +104,198 @@ fn is_match(row: &Row, head: &Head, name: &[u8]) -> bool
     ensures { (recs : List (List ℕ)) → result ≡ matches name.now (entry.view row.now head.now recs) }
 {
     let own = part(row, head[LENGTH]);
-    if same(own, name) {
-        return true;
-    }
-    if head[PREFIX] == 1 {
-        return is_prefix(own, name);
-    }
-    false
+    same(own, name) || head[PREFIX] == 1 && is_prefix(own, name)
 }
 
-// The choice of the entries that a Data's name matches.
-pub fn matching(
-    names: &Names,
-    heads: &Heads,
-    recs: &Records,
-    numbers: &Numbers,
-    s: Pending,
-    name: &[u8],
-) -> Chosen
-    ensures { marks_of (shown numbers) s result ≡ map (matches name.now) (before (shown names) (shown heads) (shown recs)
-        (shown numbers) s) }
-{
-    let mut left = s.used;
-    let mut rows = left;
-    let mut row = u64::trailing_zeros(left) as usize;
-    while row < ENTRIES {
-        rows = kept(rows, row, is_match(&names[row], &heads[row], name));
-        left = remove(left, row);
-        row = u64::trailing_zeros(left) as usize;
+impl Uses {
+    // The uses with an entry more: a class word that is no class counts as such, and as no other.
+    #[tactic(auto, unfolding(crate::specs::Places::Room::counting, records::specs::Class::class_of, laws::specs::Pick::pick))]
+    fn counted(self, class: u64) -> Uses
+        requires { all_of self ≤ most_entries }
+        ensures { result ≡ counting (class_of class) self }
+    {
+        let mut uses = self;
+        match class {
+            1 => uses.alarm += 1,
+            2 => uses.monitoring += 1,
+            3 => uses.bulk += 1,
+            _ => uses.other += 1,
+        }
+        uses
     }
-    Chosen { rows: rows }
-}
 
-// The choice of all entries.
-pub fn all(names: &Names, heads: &Heads, recs: &Records, numbers: &Numbers, s: Pending) -> Chosen
-    ensures { marks_of (shown numbers) s result ≡ map (λ _. true) (before (shown names) (shown heads) (shown recs) (shown numbers) s) }
-{
-    Chosen { rows: s.used }
-}
-
-// Of the chosen entries the one that was opened first, or the handle of no entry.
-pub fn next(numbers: &Numbers, s: Pending, c: Chosen) -> Handle
-    ensures { Finds (place_of (shown numbers) s) (handle_of (shown numbers) s) (index_of (λ b. b) (marks_of (shown numbers) s c)) result }
-{
-    Handle {
-        row: least(numbers, s.used & c.rows),
+    // "the sum over the classes of the larger of reserve and use"; what is no class counts in full.
+    #[tactic(auto, unfolding(crate::specs::Places::Room::room_of, records::specs::Class::reserve))]
+    fn room_taken(self) -> u64
+        requires { all_of self ≤ most_entries + 1 }
+        ensures { result ≡ room_of self }
+    {
+        ALARM_RESERVE.max(self.alarm)
+            + MONITORING_RESERVE.max(self.monitoring)
+            + BULK_RESERVE.max(self.bulk)
+            + self.other
     }
 }
 
-// The choice without a handle's entry.
-pub fn rest(numbers: &Numbers, s: Pending, c: Chosen, h: Handle) -> Chosen
-    ensures { marks_of (shown numbers) s result ≡ on_at (place_of (shown numbers) s h) (λ _. false) (marks_of (shown numbers) s c) }
-{
-    Chosen {
-        rows: remove(c.rows, h.row),
+impl Pending {
+    // A table with no entries.
+    pub fn new() -> Pending
+        ensures { view result ≡ [] }
+    {
+        Pending {
+            names: [[0; NAME]; ENTRIES],
+            heads: [[0; 6]; ENTRIES],
+            recs: [[[0; 5]; FACES]; ENTRIES],
+            numbers: [0; ENTRIES],
+            used: 0,
+        }
     }
-}
 
-// The uses with an entry more: a class word that is no class counts as such, and as no other.
-fn counted(u: Uses, class: u64) -> Uses
-    requires { all_of u ≤ most_entries }
-    ensures { result ≡ counting (class_of class) u }
-{
-    if class == 1 {
-        return Uses {
-            alarm: u.alarm + 1,
-            monitoring: u.monitoring,
-            bulk: u.bulk,
-            other: u.other,
-        };
+    // No entries, whatever the memory holds.
+    pub fn clear(&mut self)
+        ensures { view self.new ≡ [] }
+    {
+        self.used = 0;
     }
-    if class == 2 {
-        return Uses {
-            alarm: u.alarm,
-            monitoring: u.monitoring + 1,
-            bulk: u.bulk,
-            other: u.other,
-        };
-    }
-    if class == 3 {
-        return Uses {
-            alarm: u.alarm,
-            monitoring: u.monitoring,
-            bulk: u.bulk + 1,
-            other: u.other,
-        };
-    }
-    Uses {
-        alarm: u.alarm,
-        monitoring: u.monitoring,
-        bulk: u.bulk,
-        other: u.other + 1,
-    }
-}
 
-// How many entries each class has.
-pub fn use_by_class(
-    names: &Names,
-    heads: &Heads,
-    recs: &Records,
-    numbers: &Numbers,
-    s: Pending,
-) -> Uses
-    ensures { result ≡ uses_of (before (shown names) (shown heads) (shown recs) (shown numbers) s) }
-{
-    let mut u = Uses {
-        alarm: 0,
-        monitoring: 0,
-        bulk: 0,
-        other: 0,
-    };
-    let mut left = s.used;
-    let mut row = u64::trailing_zeros(left) as usize;
-    while row < ENTRIES {
-        u = counted(u, heads[row][CLASS]);
-        left = remove(left, row);
-        row = u64::trailing_zeros(left) as usize;
+    // How many entries there are.
+    pub fn size(&self) -> usize
+        ensures { result ≡ length (view self.now) }
+    {
+        self.used.count_ones() as usize
     }
-    u
-}
 
-// "the sum over the classes of the larger of reserve and use"; what is no class counts in full.
-fn room_taken(u: Uses) -> u64
-    requires { all_of u ≤ most_entries + 1 }
-    ensures { result ≡ room_of u }
-{
-    larger(ALARM_RESERVE, u.alarm)
-        + larger(MONITORING_RESERVE, u.monitoring)
-        + larger(BULK_RESERVE, u.bulk)
-        + u.other
-}
+    // "An entry is known by name and both flags": its handle, or that of no entry. ENTRIES is the best of no rows, as `better_row` has it.
+    pub fn find(&self, name: &[u8], prefix: bool, fresh: bool) -> Handle
+        ensures { Finds (place_of self.now) (handle_of self.now) (index_of (is_known name.now prefix fresh) (view self.now)) result }
+    {
+        let mut best = ENTRIES;
+        for row in RowWalk::of(self.used) {
+            if is_known(&self.names[row], &self.heads[row], name, prefix, fresh) {
+                best = better_row(&self.numbers, best, row);
+            }
+        }
+        Handle { row: best }
+    }
 
-// Whether there is room for one more entry of a class: the sum of the larger of reserve and use, counting it, does not exceed 64.
-pub fn has_room(
-    names: &Names,
-    heads: &Heads,
-    recs: &Records,
-    numbers: &Numbers,
-    s: Pending,
-    class: u64,
-) -> bool
-    ensures { result ≡ leb (room_taken (before (shown names) (shown heads) (shown recs) (shown numbers) s ++
-        (bare_entry most_faces [] false false (class_of class) ∷ [])))
-        most_entries }
-{
-    let u = use_by_class(names, heads, recs, numbers, s);
-    room_taken(counted(u, class)) <= ENTRIES as u64
+    // The row of a handle's entry, for what stands in that row; none where there is no entry.
+    pub fn row_of(&self, h: Handle) -> Option<usize>
+        ensures row { result ≡ row_held (state self.now) h }
+        ensures within { IfSome result (λ i. i < most_entries) }
+    {
+        has(self.used, h.row).then_some(h.row)
+    }
+
+    // Whether a handle has an entry.
+    pub fn is_there(&self, h: Handle) -> bool
+        ensures { result ≡ ltb (place_of self.now h) (length (view self.now)) }
+    {
+        has(self.used, h.row)
+    }
+
+    // A new entry, without records, after the others: its handle. A 65th entry, or a name over 255 bytes, changes nothing, and the handle
+    // is that of no entry.
+    pub fn open(&mut self, name: &[u8], prefix: bool, fresh: bool, class: u64) -> Handle
+        ensures { Opens result (bare_entry most_faces name.now prefix fresh (class_of class)) (view self.old) (view self.new)
+            (place_of self.old) (place_of self.new) (marks_of self.old) (marks_of self.new) }
+    {
+        let row = free(self.used);
+        if row < ENTRIES && put_bytes(&mut self.names[row], 0, name).is_some() {
+            self.heads[row] = bare(name.len() as u64, prefix, fresh, class);
+            self.used = open_row(&mut self.numbers, self.used).used;
+            Handle { row }
+        } else {
+            Handle { row: ENTRIES }
+        }
+    }
+
+    // Takes the entry of a handle out; a handle of no entry changes nothing.
+    pub fn take_out(&mut self, h: Handle)
+        ensures { TakesOut h (view self.old) (view self.new) (place_of self.old) (place_of self.new) (marks_of self.old)
+            (marks_of self.new) }
+    {
+        self.used = remove(self.used, h.row);
+    }
+
+    // The name of a handle's entry, where it stands; no bytes where there is none.
+    pub fn name_of(&self, h: Handle) -> &[u8]
+        ensures { result.now ≡ given [] (λ e. e.name) (entry_at self.now h) }
+    {
+        match self.row_of(h) {
+            Some(row) => part(&self.names[row], self.heads[row][LENGTH]),
+            None => &[],
+        }
+    }
+
+    // The flags and the class word of a handle's entry; false, false and 0, which is no class, where there is none.
+    pub fn facts_of(&self, h: Handle) -> Facts
+        ensures { result ≡ given nothing facts_of (entry_at self.now h) }
+    {
+        match self.row_of(h) {
+            Some(row) => Facts {
+                prefix: self.heads[row][PREFIX] == 1,
+                fresh: self.heads[row][FRESH] == 1,
+                class: self.heads[row][CLASS],
+            },
+            None => Facts::default(),
+        }
+    }
+
+    // The choice of the entries that a Data's name matches.
+    pub fn matching(&self, name: &[u8]) -> Chosen
+        ensures { marks_of self.now result ≡ map (matches name.now) (view self.now) }
+    {
+        let mut rows = self.used;
+        for row in RowWalk::of(self.used) {
+            rows = kept(
+                rows,
+                row,
+                is_match(&self.names[row], &self.heads[row], name),
+            );
+        }
+        Chosen { rows }
+    }
+
+    // The choice of all entries.
+    pub fn all(&self) -> Chosen
+        ensures { marks_of self.now result ≡ map (λ _. true) (view self.now) }
+    {
+        Chosen { rows: self.used }
+    }
+
+    // Of the chosen entries the one that was opened first, or the handle of no entry.
+    pub fn next(&self, c: Chosen) -> Handle
+        ensures { Finds (place_of self.now) (handle_of self.now) (index_of (λ b. b) (marks_of self.now c)) result }
+    {
+        Handle {
+            row: least(&self.numbers, self.used & c.rows),
+        }
+    }
+
+    // The choice without a handle's entry.
+    pub fn rest(&self, c: Chosen, h: Handle) -> Chosen
+        ensures { marks_of self.now result ≡ on_at (place_of self.now h) (λ _. false) (marks_of self.now c) }
+    {
+        Chosen {
+            rows: remove(c.rows, h.row),
+        }
+    }
+
+    // How many entries each class has.
+    pub fn use_by_class(&self) -> Uses
+        ensures { result ≡ uses_of (view self.now) }
+    {
+        let mut uses = Uses::default();
+        for row in RowWalk::of(self.used) {
+            uses = uses.counted(self.heads[row][CLASS]);
+        }
+        uses
+    }
+
+    // Whether there is room for one more entry of a class: the sum of the larger of reserve and use, counting it, does not exceed 64.
+    pub fn has_room(&self, class: u64) -> bool
+        ensures { result ≡ leb (room_taken (view self.now ++ (bare_entry most_faces [] false false (class_of class) ∷ []))) most_entries }
+    {
+        self.use_by_class().counted(class).room_taken() <= ENTRIES as u64
+    }
 }

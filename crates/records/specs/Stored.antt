@@ -1,10 +1,10 @@
 -- The store: Data in the order of their use, the least recently stored or hit first.
 -- Assumes nothing.
+use Rattle.std.specs.declared.cmp.Ordering.{Ordering}
 use Rattle.std.specs.Prelude.{ℕ, suc, ◌+◌, Bool, true, false, ◌&&◌, ◌||◌, not, List, [], ◌∷◌, ◌++◌, length, drop, ltb}
 use Rattle.std.proofs.Math.Option.{Option, none, some}
 use Rattle.laws.specs.Pick.{pick}
 use Rattle.laws.specs.Lists.{index_of, without}
-use Rattle.names.specs.declared.order.Order.{Order}
 use Rattle.names.specs.Name.{same_bytes, prefix_of}
 use Rattle.names.specs.Order.{canonical_order}
 
@@ -39,10 +39,10 @@ pub record Hit : Type 0 where
   pub what : Stored
 
 -- whether it comes before
-unfoldable pub is_before : Order → Bool
-is_before Order.Before = true
-is_before Order.Same = false
-is_before Order.After = false
+unfoldable pub is_before : Ordering → Bool
+is_before Ordering.Less = true
+is_before Ordering.Equal = false
+is_before Ordering.Greater = false
 
 -- "the first in canonical order" of a Data and what was found after it
 unfoldable pub earlier : Hit → Option Hit → Option Hit

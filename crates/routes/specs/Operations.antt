@@ -10,8 +10,6 @@ use Rattle.faces.specs.Set.{faces_where}
 use Rattle.records.specs.Class.{Class, class_number}
 use Rattle.records.specs.Slots.{slot, is_some}
 use Rattle.records.specs.Route.{Route, route_of, with_class, new_route, longest}
-use Rattle.routes.specs.declared.Settled.{Settled}
-use Rattle.routes.specs.Places.View.{state_of}
 
 -- whether a prefix is known
 unfoldable pub is_route : List ℕ → List Route → Bool
@@ -27,10 +25,9 @@ with_route n p c rs =
     pick (is_route p rs) (on_at (route_of p rs) (with_class c) rs) (pick (has_room p rs) (rs ++ (new_route n p c ∷ [])) rs)
 
 -- what setting a route comes to: whether it is known or fits, and the routes then
-pub record Sets (n : ℕ) (r : Settled) (after : List Route) (p : List ℕ) (c : Class) (before : List Route) : Type 0 where
-  pub said : r.fits ≡ (is_route p before || has_room p before)
+pub record Sets (n : ℕ) (r : Bool) (after : List Route) (p : List ℕ) (c : Class) (before : List Route) : Type 0 where
+  pub said : r ≡ (is_route p before || has_room p before)
   pub left : after ≡ with_route n p c before
-  pub state : r.routes ≡ state_of after
 
 -- whether nothing that was found after a route is longer
 unfoldable pub is_longest : Route → Option Route → Bool

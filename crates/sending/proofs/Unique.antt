@@ -57,15 +57,15 @@ pub send_copies_one : (κs : Lfts 4) (a : Dens κs send-copies-kinds.ps) (x y : 
 send_copies_one κs a x y s t p q = packs_same p q
 
 -- two class words for a name
-pub class_for_one : (κs : Lfts 4) (a : Dens κs class-for-kinds.ps) (x y : (res_t class-for-kinds.r κs).Denot)
-    (s t : AtExit (ended_of 4 class-for-kinds.ps class-for-kinds.r) κs)
+pub class_for_one : (κs : Lfts 2) (a : Dens κs class-for-kinds.ps) (x y : (res_t class-for-kinds.r κs).Denot)
+    (s t : AtExit (ended_of 2 class-for-kinds.ps class-for-kinds.r) κs)
     → class-for-reads.Post κs a x s → class-for-reads.Post κs a y t → x ≡ y
 class_for_one κs a x y s t p q = p ∙ sym q
 
 -- two outcomes of a refusal
-pub refuse_one : (κs : Lfts 6) (a : Dens κs refuse-kinds.ps) (x y : (res_t refuse-kinds.r κs).Denot)
-    (s t : AtExit (ended_of 6 refuse-kinds.ps refuse-kinds.r) κs)
+pub refuse_one : (κs : Lfts 4) (a : Dens κs refuse-kinds.ps) (x y : (res_t refuse-kinds.r κs).Denot)
+    (s t : AtExit (ended_of 4 refuse-kinds.ps refuse-kinds.r) κs)
     → refuse-reads.Post κs a x s → refuse-reads.Post κs a y t
-    → (x ≡ y) × (s.1.1.1.1.1.0.now ≡ t.1.1.1.1.1.0.now)
-    × (s.1.1.1.1.1.1.0.now ≡ t.1.1.1.1.1.1.0.now)
+    → (x ≡ y) × (s.1.1.0.now ≡ t.1.1.0.now)
+    × (s.1.1.1.0.now ≡ t.1.1.1.0.now)
 refuse_one κs a x y s t p q = packs_same p q

@@ -8,30 +8,31 @@ ghost use Rattle.records.specs.Class.{class_of, class_number};
 ghost use Rattle.records.specs.Route.{longest};
 ghost use Rattle.faces.specs.Set.{has_face};
 ghost use Rattle.faces.specs.Places.View.{view};
-ghost use Rattle.routes.specs.Places.View.{before};
-ghost use Rattle.rules.specs.Outcome.{interest, dat, nack, route_class};
+ghost use Rattle.routes.specs.Places.View as known;
+ghost use Rattle.rules.specs.Outcome.{interest, dat, nack, kind_number, route_class};
 ghost use Rattle.packets.specs.Places.View.{lowered};
 ghost use Rattle.writing.specs.Written.{nack_bytes};
-ghost use Rattle.rows.specs.Lent.{lent, shown};
+ghost use Rattle.rows.specs.Lent.{lent};
 ghost use Rattle.sending.specs.Rows.{if_room, put, copies_from};
-ghost use Rattle.sending.specs.Places.Sheet.{note_of, sheet, PacksIn, only_send, nack_sends};
+ghost use Rattle.sending.specs.Places.Sheet.{kind_of, note_of, sheet, PacksIn, only_send, nack_sends};
 ghost use Rattle.sending.specs.Places.Copies.{NotesCopies};
 
-use faces::{Faces, lowest, remove};
-use packets::Hop;
+use faces::{Faces, Walk, lowest};
+use packets::HopLimit;
+use routes::Routes;
 use sizes::FACES;
-use wire::Put;
-use writing::{write_data, write_interest, write_nack};
+use writing::{Request, write_data, write_interest, write_nack};
 
-// Face, kind, class word, place and length of each send, lent by the caller.
+// Face, kind, class word, place and length of each send, lent by the caller: rows of numbers, as `send_row` has them.
 pub type Sends = [[u64; 5]; FACES];
 
 // "kind (1 Interest, 2 Data, 3 Nack)"
-const INTEREST: u64 = 1;
-
-const DATA: u64 = 2;
-
-const NACK: u64 = 3;
+#[derive(Clone, Copy)]
+enum Kind {
+    Interest = 1,
+    Data = 2,
+    Nack = 3,
+}
 
 // "1 alarm, 2 monitoring, 3 bulk"
 const BULK: u64 = 3;
@@ -44,11 +45,11 @@ pub struct Sent {
 }
 
 // The row of a send.
-fn note(sends: &mut Sends, row: usize, face: usize, kind: u64, class: u64, at: usize, len: usize)
+fn note(sends: &mut Sends, row: usize, face: usize, kind: Kind, class: u64, at: usize, len: usize)
     requires { row < most_faces }
-    ensures { sends.new ≡ set sends.old row (note_of face kind class at len) }
+    ensures { sends.new ≡ set sends.old row (note_of face (kind_number (kind_of kind)) class at len) }
 {
-    sends[row] = [face as u64, kind, class, at as u64, len as u64];
+    sends[row] = [face as u64, kind as u64, class, at as u64, len as u64];
 }
 
 // A Nack more, where there is a row and room for it; else nothing changes.
@@ -59,29 +60,28 @@ pub fn put_nack(
     face: usize,
     class: u64,
     reason: u8,
-    name: &[u8],
-    prefix: bool,
-    fresh: bool,
-    nonce: u64,
+    request: Request,
 ) -> Sent
     ensures { sheet result sends.exit out.exit
-        ≡ put (record { face = face; kind = nack; cls = class_of class; bytes = nack_bytes reason name.now prefix fresh nonce })
+        ≡ put (record {
+          face = face;
+          kind = nack;
+          cls = class_of class;
+          bytes = nack_bytes reason request.entry.name.now request.entry.prefix request.entry.fresh request.entry.nonce;
+        })
         (sheet sent sends.entry out.entry) }
 {
-    let count = sent.count;
-    let at = sent.at;
+    let Sent { count, at } = sent;
     if FACES <= count {
         return sent;
     }
-    match write_nack(out, at, reason, name, prefix, fresh, nonce) {
-        Put::Full => sent,
-        Put::Next(end) => {
-            note(sends, count, face, NACK, class, at, end - at);
-            Sent {
-                count: count + 1,
-                at: end,
-            }
-        }
+    let Some(end) = write_nack(out, at, reason, request) else {
+        return sent;
+    };
+    note(sends, count, face, Kind::Nack, class, at, end - at);
+    Sent {
+        count: count + 1,
+        at: end,
     }
 }
 
@@ -92,19 +92,18 @@ pub fn send_nack(
     face: usize,
     class: u64,
     reason: u8,
-    name: &[u8],
-    prefix: bool,
-    fresh: bool,
-    nonce: u64,
+    request: Request,
 ) -> usize
     ensures { PacksIn (lent sends) (lent out) result (only_send (lent out)
-        (record { face = face; kind = nack; cls = class_of class; bytes = nack_bytes reason name.now prefix fresh nonce })) }
+        (record {
+          face = face;
+          kind = nack;
+          cls = class_of class;
+          bytes = nack_bytes reason request.entry.name.now request.entry.prefix request.entry.fresh request.entry.nonce;
+        })) }
 {
     let none = Sent { count: 0, at: 0 };
-    let sent = put_nack(
-        sends, out, none, face, class, reason, name, prefix, fresh, nonce,
-    );
-    sent.count
+    put_nack(sends, out, none, face, class, reason, request).count
 }
 
 // The one Interest of an event, where there is room: it leaves as it came, HopLimit one lower.
@@ -114,18 +113,16 @@ pub fn send_interest(
     face: usize,
     class: u64,
     bare: &[u8],
-    hop: Hop,
+    hop: Option<HopLimit>,
 ) -> usize
     ensures { PacksIn (lent sends) (lent out) result
         (only_send (lent out) (record { face = face; kind = interest; cls = class_of class; bytes = lowered bare.now hop })) }
 {
-    match write_interest(out, 0, bare, hop) {
-        Put::Full => 0,
-        Put::Next(len) => {
-            note(sends, 0, face, INTEREST, class, 0, len);
-            1
-        }
-    }
+    let Some(len) = write_interest(out, 0, bare, hop) else {
+        return 0;
+    };
+    note(sends, 0, face, Kind::Interest, class, 0, len);
+    1
 }
 
 // The one Data of an event, for one face, where there is room.
@@ -133,13 +130,11 @@ pub fn send_data(sends: &mut Sends, out: &mut [u8], face: usize, class: u64, bar
     ensures { PacksIn (lent sends) (lent out) result
         (only_send (lent out) (record { face = face; kind = dat; cls = class_of class; bytes = bare.now })) }
 {
-    match write_data(out, 0, bare) {
-        Put::Full => 0,
-        Put::Next(len) => {
-            note(sends, 0, face, DATA, class, 0, len);
-            1
-        }
-    }
+    let Some(len) = write_data(out, 0, bare) else {
+        return 0;
+    };
+    note(sends, 0, face, Kind::Data, class, 0, len);
+    1
 }
 
 // The rows of a Data's copies, by ascending face; the Data stands at the buffer's start.
@@ -147,13 +142,9 @@ fn note_copies(sends: &mut Sends, set: u64, classes: &[u64; FACES], len: usize) 
     ensures { NotesCopies most_faces set len classes.now sends.old sends.new result }
 {
     let mut count: usize = 0;
-    let mut left = set;
-    let mut face = lowest(left);
-    while face <= FACES {
-        note(sends, count, face, DATA, classes[face - 1], 0, len);
+    for face in Walk::of(set) {
+        note(sends, count, face, Kind::Data, classes[face - 1], 0, len);
         count += 1;
-        left = remove(left, face);
-        face = lowest(left);
     }
     count
 }
@@ -174,50 +165,42 @@ pub fn send_copies(
         return 0;
     }
     match write_data(out, 0, bare) {
-        Put::Full => 0,
-        Put::Next(len) => note_copies(sends, set, classes, len),
+        None => 0,
+        Some(len) => note_copies(sends, set, classes, len),
     }
 }
 
 // The class word of the longest route for a name, "or 3 if there is none".
-pub fn class_for(
-    prefixes: &routes::Names,
-    settings: &routes::Heads,
-    costs: &routes::Costs,
-    known: routes::Routes,
-    name: &[u8],
-) -> u64
-    ensures { result ≡ class_number (route_class (longest name.now (before (shown prefixes) (shown settings) (shown costs) known))) }
+pub fn class_for(routes: &Routes, name: &[u8]) -> u64
+    ensures { result ≡ class_number (route_class (longest name.now (known.view routes.now))) }
 {
-    let route = routes::longest(prefixes, settings, costs, known, name);
-    if routes::is_there(prefixes, settings, costs, known, route) {
-        return routes::class_of(prefixes, settings, costs, known, route);
+    let route = routes.longest(name);
+    if routes.is_there(route) {
+        routes.class_of(route)
+    } else {
+        BULK
     }
-    BULK
 }
 
 // The Nack of a refused Interest: "Nacks go only to point-to-point faces."
 pub fn refuse(
-    prefixes: &routes::Names,
-    settings: &routes::Heads,
-    costs: &routes::Costs,
-    known: routes::Routes,
+    routes: &Routes,
     faces: Faces,
     sends: &mut Sends,
     out: &mut [u8],
     face: usize,
     reason: u8,
-    name: &[u8],
-    prefix: bool,
-    fresh: bool,
-    nonce: u64,
+    request: Request,
 ) -> usize
-    ensures { PacksIn (lent sends) (lent out) result (if_room (nack_bytes reason name.now prefix fresh nonce) out.old
-        (nack_sends (view faces) (before (shown prefixes) (shown settings) (shown costs) known) face reason name.now prefix fresh nonce)) }
+    ensures { PacksIn (lent sends) (lent out) result
+        (if_room (nack_bytes reason request.entry.name.now request.entry.prefix request.entry.fresh request.entry.nonce) out.old
+        (nack_sends (view faces) (known.view routes.now) face reason request.entry.name.now request.entry.prefix request.entry.fresh
+        request.entry.nonce)) }
 {
     if faces.is_peer(face) {
-        let class = class_for(prefixes, settings, costs, known, name);
-        return send_nack(sends, out, face, class, reason, name, prefix, fresh, nonce);
+        let class = class_for(routes, request.name);
+        send_nack(sends, out, face, class, reason, request)
+    } else {
+        0
     }
-    0
 }

@@ -6,8 +6,6 @@ use Rattle.laws.specs.Pick.{pick}
 use Rattle.laws.specs.Lists.{without}
 use Rattle.records.specs.Slots.{given, at_place}
 use Rattle.records.specs.Stored.{Stored, stored}
-use Rattle.store.specs.declared.Kept.{Kept}
-use Rattle.store.specs.Places.View.{state_of}
 
 -- whether a Data fits a row
 unfoldable pub fits_row : Stored → Bool
@@ -18,10 +16,9 @@ unfoldable pub kept : Stored → List Stored → List Stored
 kept d ds = pick (fits_row d) (stored most_stored d ds) ds
 
 -- what storing a Data comes to: whether it fits, and the store then
-pub record Puts (r : Kept) (after : List Stored) (d : Stored) (before : List Stored) : Type 0 where
-  pub said : r.fits ≡ fits_row d
+pub record Puts (r : Bool) (after : List Stored) (d : Stored) (before : List Stored) : Type 0 where
+  pub said : r ≡ fits_row d
   pub left : after ≡ kept d before
-  pub state : r.store ≡ state_of after
 
 -- the store with the Data at a place made the most recent
 unfoldable pub recent : ℕ → List Stored → List Stored

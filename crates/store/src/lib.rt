@@ -1,329 +1,244 @@
 // The store: Data in the order of their use, each packet in a row, the least recently stored or hit first.
 #![tactic(auto)]
 
-ghost use Rattle.std.specs.Prelude.{ℕ, ◌<◌, ◌≤◌, ◌≡◌, List, [], length, take};
+ghost use Rattle.std.specs.Prelude.{◌<◌, ◌≤◌, ◌≡◌, [], length, take, min, MatchOption, IfSome};
 ghost use Rattle.laws.specs.Lists.{index_of, without};
 ghost use Rattle.sizes.specs.Sizes.{most_packet, most_stored};
 ghost use Rattle.records.specs.Slots.{given, is_some};
-ghost use Rattle.records.specs.Stored.{serves, is_before, earlier, lookup};
-ghost use Rattle.rows.specs.Lent.{lent, shown};
-ghost use Rattle.store.specs.Places.View.{view, state_of, before, after, placed, found, data_of, stored_at};
+ghost use Rattle.records.specs.Stored.{serves, earlier, lookup};
+ghost use Rattle.std.proofs.Math.Option.{some};
+ghost use Rattle.store.specs.Places.View.{view, placed, found, count_of, data_of, stored_of};
 ghost use Rattle.store.specs.Operations.{Puts, recent};
 ghost use Rattle.store.specs.Places.Put.{is_named, leaver};
 ghost use Rattle.store.specs.Places.Look.{answers, in_time, hit, hit_at};
 
-use names::{Order, compare, is_prefix, same};
+use names::{compare, is_prefix, same};
 use packethead::find_name;
-use rows::{clamped, part};
+use rows::part;
 use sizes::{PACKET, STORED};
-use wire::put_bytes;
 
-// "stored Data 8", "Packet at most 1,500 bytes": the packets, lent by the caller.
-pub type Packets = [[u8; PACKET]; STORED];
-
-// For each packet its length, when it was stored, and its freshness as it counts.
-pub type Heads = [[u64; 3]; STORED];
-
-// The columns of a head.
-const LENGTH: usize = 0;
-
-const TIME: usize = 1;
-
-const FRESHNESS: usize = 2;
-
-// How many Data there are. Nobody above reads its field.
+// A Data: the bytes of its packet ("Packet at most 1,500 bytes") and how many of them there are, when it was stored, and its freshness as it
+// counts.
 #[derive(Clone, Copy)]
+pub struct Row {
+    packet: [u8; PACKET],
+    len: u64,
+    time: u64,
+    freshness: u64,
+}
+
+// The Data ("stored Data 8"), and how many there are. Nobody above reads its fields.
 pub struct Store {
+    rows: [Row; STORED],
     count: usize,
 }
 
 // A Data, or none. Nobody above reads its field.
-#[derive(Clone, Copy)]
+#[derive(Clone, Copy, Debug, PartialEq, Eq)]
 pub struct Handle {
     at: usize,
 }
 
-// Whether a Data that was to be stored fits, and the store then.
-#[derive(Clone, Copy)]
-pub struct Kept {
-    pub fits: bool,
-    pub store: Store,
-}
-
-// No Data, whatever the memory holds.
-pub fn empty() -> Store
-    ensures no_data { (packets heads : List (List ℕ)) → view packets heads result ≡ [] }
-    ensures state { result ≡ state_of [] }
-{
-    Store { count: 0 }
-}
-
-// Whether a handle stands for a Data.
-pub fn is_there(packets: &Packets, heads: &Heads, store: Store, taken: Handle) -> bool
-    ensures { result ≡ is_some (found (shown packets) (shown heads) store taken) }
-{
-    if taken.at < clamped(store.count, STORED) {
-        return true;
+impl Row {
+    // The bytes of the packet, no more than the row has.
+    fn bytes(&self) -> &[u8]
+        ensures bytes { result.now ≡ (stored_of self.now).bytes }
+        ensures fits { length result.now ≤ most_packet }
+    {
+        part(&self.packet, self.len)
     }
-    false
-}
 
-// A row has all its bytes. It is said of a value, since of what stands behind a reference no length is known.
-fn has_all_bytes(row: [u8; PACKET])
-    ensures { length row ≡ most_packet }
-{}
-
-// The first bytes of a row, no more than a packet has.
-fn bytes_in(row: &[u8; PACKET], len: u64) -> &[u8]
-    ensures bytes { result.now ≡ take len row.now }
-    ensures fits { length result.now ≤ most_packet }
-{
-    has_all_bytes(*row);
-    part(row, len)
-}
-
-// The bytes of a Data, where they stand; none where there is no Data.
-pub fn bytes_of<'a>(packets: &'a Packets, heads: &Heads, store: Store, taken: Handle) -> &'a [u8]
-    ensures bytes { result.now ≡ given [] (λ d. d.bytes) (found (shown packets) (shown heads) store taken) }
-    ensures fits { length result.now ≤ most_packet }
-{
-    let i = taken.at;
-    if i < clamped(store.count, STORED) {
-        bytes_in(&packets[i], heads[i][LENGTH])
-    } else {
-        bytes_in(&packets[0], 0)
+    // The name of the Data, where it stands in the packet.
+    fn name(&self) -> &[u8]
+        ensures { result.now ≡ (stored_of self.now).name }
+    {
+        find_name(self.bytes())
     }
-}
 
-// The name of the Data in a row, where it stands in the packet.
-fn name_at<'a>(packets: &'a Packets, heads: &Heads, i: usize) -> &'a [u8]
-    requires { i < most_stored }
-    ensures { result.now ≡ (stored_at packets.now heads.now i).name }
-{
-    find_name(part(&packets[i], heads[i][LENGTH]))
-}
-
-// The place of the Data with a name, else the number of Data.
-fn find(packets: &Packets, heads: &Heads, store: Store, name: &[u8]) -> usize
-    ensures { result ≡ index_of (is_named name.now) (before (shown packets) (shown heads) store) }
-{
-    let n = clamped(store.count, STORED);
-    let mut i: usize = 0;
-    while i < n {
-        if same(name, name_at(packets, heads, i)) {
-            return i;
-        }
-        i += 1;
+    // Whether a lookup may take the Data by its time: "with MustBeFresh only while now < storing time + freshness", with no sum that could
+    // be too large.
+    fn is_in_time(&self, fresh: bool, time: u64) -> bool
+        ensures { result ≡ in_time time fresh self.now }
+    {
+        !fresh || time < self.time || time - self.time < self.freshness
     }
-    i
-}
 
-// The place of the Data that gives way to a new one of a name: the equal name's, else, in a full store, that of the least recent; else the
-// number of Data.
-fn leaving(packets: &Packets, heads: &Heads, store: Store, name: &[u8]) -> usize
-    ensures leaves { result ≡ leaver name.now (before (shown packets) (shown heads) store) }
-    ensures within { result < most_stored }
-{
-    let i = find(packets, heads, store, name);
-    if i < STORED { i } else { 0 }
-}
-
-// A table has all its rows.
-fn has_all_packets(packets: Packets)
-    ensures { length packets ≡ most_stored }
-{}
-
-// A table has all its heads.
-fn has_all_heads(heads: Heads)
-    ensures { length heads ≡ most_stored }
-{}
-
-// The Data at a place goes, and those after it move one place down; a place past the last changes nothing. How many there are then.
-fn take_out(packets: &mut Packets, heads: &mut Heads, store: Store, i: usize) -> usize
-    requires { i < most_stored }
-    ensures gone { after (lent packets) (lent heads) (record { count = result }) ≡ without i (before (lent packets)
-        (lent heads) store) }
-    ensures within { result < most_stored }
-{
-    let n = clamped(store.count, STORED);
-    if n <= i {
-        return n;
-    }
-    has_all_packets(*packets);
-    has_all_heads(*heads);
-    let mut k: usize = i + 1;
-    while k < n {
-        packets[k - 1] = packets[k];
-        heads[k - 1] = heads[k];
-        k += 1;
-    }
-    n - 1
-}
-
-// Bytes into a row that has room for them.
-fn fill(row: &mut [u8; PACKET], bytes: &[u8])
-    requires { length bytes.now ≤ most_packet }
-    ensures { take (length bytes.now) row.new ≡ bytes.now }
-{
-    has_all_bytes(*row);
-    put_bytes(row, 0, bytes);
-}
-
-// "The store replaces an equal name, else, when full, evicts the least recently stored or hit." Bytes that are no packet's size change
-// nothing.
-pub fn put(
-    packets: &mut Packets,
-    heads: &mut Heads,
-    store: Store,
-    bytes: &[u8],
-    time: u64,
-    freshness: u64,
-) -> Kept
-    ensures { Puts result (after (lent packets) (lent heads) result.store) (data_of bytes.now time freshness) (before (lent packets)
-        (lent heads) store) }
-{
-    if PACKET < bytes.len() {
-        let all = clamped(store.count, STORED);
-        return Kept {
-            fits: false,
-            store: Store { count: all },
-        };
-    }
-    let i = leaving(packets, heads, store, find_name(bytes));
-    let n = take_out(packets, heads, store, i);
-    has_all_packets(*packets);
-    has_all_heads(*heads);
-    fill(&mut packets[n], bytes);
-    heads[n] = [bytes.len() as u64, time, freshness];
-    Kept {
-        fits: true,
-        store: Store { count: n + 1 },
-    }
-}
-
-// Whether a lookup may take a Data by its time: "with MustBeFresh only while now < storing time + freshness", with no sum that could be
-// too large.
-fn is_in_time(head: &[u64; 3], fresh: bool, time: u64) -> bool
-    ensures { result ≡ in_time time fresh head.now }
-{
-    if fresh {
-        if time < head[TIME] {
-            true
+    // Whether a lookup may take the Data by its name: "an equal name, with CanBePrefix also any name extending it".
+    fn is_named(&self, name: &[u8], prefix: bool) -> bool
+        ensures { result ≡ answers name.now prefix (stored_of self.now).name }
+    {
+        if prefix {
+            is_prefix(name, self.name())
         } else {
-            time - head[TIME] < head[FRESHNESS]
+            same(name, self.name())
         }
-    } else {
+    }
+
+    // Whether a lookup may take the Data.
+    fn is_served(&self, name: &[u8], prefix: bool, fresh: bool, time: u64) -> bool
+        ensures { result ≡ serves time name.now prefix fresh (stored_of self.now) }
+    {
+        self.is_in_time(fresh, time) && self.is_named(name, prefix)
+    }
+
+    // A Data into the row, which has room for its bytes.
+    fn fill(&mut self, bytes: &[u8], time: u64, freshness: u64)
+        requires { length bytes.now ≤ most_packet }
+        ensures { stored_of self.new ≡ data_of bytes.now time freshness }
+    {
+        self.packet[..bytes.len()].copy_from_slice(bytes);
+        self.len = bytes.len() as u64;
+        self.time = time;
+        self.freshness = freshness;
+    }
+}
+
+impl Store {
+    // A store with no Data.
+    pub fn new() -> Store
+        ensures no_data { view result ≡ [] }
+        ensures counted { count_of result ≡ 0 }
+    {
+        let row = Row {
+            packet: [0; PACKET],
+            len: 0,
+            time: 0,
+            freshness: 0,
+        };
+        Store {
+            rows: [row; STORED],
+            count: 0,
+        }
+    }
+
+    // No Data, whatever the memory holds.
+    pub fn clear(&mut self)
+        ensures no_data { view self.new ≡ [] }
+        ensures counted { count_of self.new ≡ 0 }
+    {
+        self.count = 0;
+    }
+
+    // How many Data there are: a count past the store's size is the size.
+    fn len(&self) -> usize
+        ensures { result ≡ min self.now.count most_stored }
+    {
+        self.count.min(STORED)
+    }
+
+    // The rows of the Data.
+    fn data(&self) -> &[Row]
+        ensures { result.now ≡ take (min self.now.count most_stored) self.now.rows }
+    {
+        &self.rows[..self.len()]
+    }
+
+    // Whether a handle stands for a Data.
+    pub fn is_there(&self, taken: Handle) -> bool
+        ensures { result ≡ is_some (found self.now taken) }
+    {
+        taken.at < self.len()
+    }
+
+    // The bytes of a Data, where they stand; none where there is no Data.
+    pub fn bytes_of(&self, taken: Handle) -> &[u8]
+        ensures bytes { result.now ≡ given [] (λ d. d.bytes) (found self.now taken) }
+        ensures fits { length result.now ≤ most_packet }
+    {
+        match self.data().get(taken.at) {
+            Some(row) => row.bytes(),
+            None => &[],
+        }
+    }
+
+    // The place of the Data with a name, if there is one.
+    fn find(&self, name: &[u8]) -> Option<usize>
+        ensures { MatchOption result (index_of (is_named name.now) (view self.now) ≡ length (view self.now))
+            (λ i. (i < length (view self.now)) × (i ≡ index_of (is_named name.now) (view self.now))) }
+    {
+        self.data().iter().position(|row| same(name, row.name()))
+    }
+
+    // The place of the Data that gives way to a new one of a name: the equal name's, else, in a full store, that of the least recent. None
+    // gives way to a new one of another name in a store that is not full.
+    fn leaving(&self, name: &[u8]) -> Option<usize>
+        ensures { MatchOption result ((length (view self.now) < most_stored) × (leaver name.now (view self.now) ≡ length (view self.now)))
+            (λ i. (i < length (view self.now)) × (i ≡ leaver name.now (view self.now))) }
+    {
+        match self.find(name) {
+            Some(i) => Some(i),
+            None if self.count < STORED => None,
+            None => Some(0),
+        }
+    }
+
+    // The Data that gives way to a new one of a name goes, if there is one. The store then has room for one more.
+    fn make_room(&mut self, name: &[u8])
+        ensures gone { view self.new ≡ without (leaver name.now (view self.old)) (view self.old) }
+        ensures room { length (view self.new) < most_stored }
+        ensures counted { count_of self.new ≡ length (view self.new) }
+    {
+        self.count = self.len();
+        if let Some(at) = self.leaving(name) {
+            // It takes the last row, which then counts no more.
+            self.touch(Handle { at });
+            self.count -= 1;
+        }
+    }
+
+    // "The store replaces an equal name, else, when full, evicts the least recently stored or hit." Bytes that are no packet's size change
+    // nothing. Whether they are.
+    pub fn put(&mut self, bytes: &[u8], time: u64, freshness: u64) -> bool
+        ensures puts { Puts result (view self.new) (data_of bytes.now time freshness) (view self.old) }
+        ensures counted { count_of self.new ≡ length (view self.new) }
+    {
+        if PACKET < bytes.len() {
+            self.count = self.len();
+            return false;
+        }
+        self.make_room(find_name(bytes));
+        self.rows[self.count].fill(bytes, time, freshness);
+        self.count += 1;
         true
     }
-}
 
-// Whether a lookup may take the Data in a row by its name: "an equal name, with CanBePrefix also any name extending it".
-fn is_named(packets: &Packets, heads: &Heads, i: usize, name: &[u8], prefix: bool) -> bool
-    requires { i < most_stored }
-    ensures { result ≡ answers name.now prefix (stored_at packets.now heads.now i).name }
-{
-    if prefix {
-        is_prefix(name, name_at(packets, heads, i))
-    } else {
-        same(name, name_at(packets, heads, i))
-    }
-}
-
-// Whether a lookup may take the Data in a row.
-fn is_served(
-    packets: &Packets,
-    heads: &Heads,
-    i: usize,
-    name: &[u8],
-    prefix: bool,
-    fresh: bool,
-    time: u64,
-) -> bool
-    requires { i < most_stored }
-    ensures { result ≡ serves time name.now prefix fresh (stored_at packets.now heads.now i) }
-{
-    if is_in_time(&heads[i], fresh, time) {
-        is_named(packets, heads, i, name, prefix)
-    } else {
-        false
-    }
-}
-
-// Whether the first of two comes before the second.
-fn is_before(order: Order) -> bool
-    ensures { result ≡ is_before order }
-{
-    match order {
-        Order::Before => true,
-        Order::Same => false,
-        Order::After => false,
-    }
-}
-
-// Of a Data and the best of those after it, the place of the first in canonical order. The number of Data stands for no best.
-fn earlier_of(packets: &Packets, heads: &Heads, n: usize, i: usize, best: usize) -> usize
-    requires { (i < n) × (n ≤ most_stored) }
-    ensures earlier { hit_at packets.now heads.now n result
-        ≡ earlier (hit packets.now heads.now i) (hit_at packets.now heads.now n best) }
-    ensures within { result ≤ n }
-{
-    if n <= best {
-        return i;
-    }
-    if is_before(compare(name_at(packets, heads, best), name_at(packets, heads, i))) {
-        best
-    } else {
-        i
-    }
-}
-
-// The Data that a lookup takes, or none: "of those it takes the first in canonical order".
-pub fn look(
-    packets: &Packets,
-    heads: &Heads,
-    store: Store,
-    name: &[u8],
-    prefix: bool,
-    fresh: bool,
-    time: u64,
-) -> Handle
-    ensures { placed (shown packets) (shown heads) store result
-        ≡ given (length (before (shown packets) (shown heads) store)) (λ h. h.place)
-        (lookup time name.now prefix fresh (before (shown packets) (shown heads) store)) }
-{
-    let n = clamped(store.count, STORED);
-    let mut best = n;
-    let mut i = n;
-    while 0 < i {
-        i -= 1;
-        if is_served(packets, heads, i, name, prefix, fresh, time) {
-            best = earlier_of(packets, heads, n, i, best);
+    // Of a Data and the best of those after it, the place of the first in canonical order.
+    fn earlier_of(&self, i: usize, best: Option<usize>) -> usize
+        requires at_row { i < most_stored }
+        requires best_row { IfSome best (λ b. b < most_stored) }
+        ensures earlier { some (hit self.now.rows result) ≡ earlier (hit self.now.rows i) (hit_at self.now.rows best) }
+        ensures within { result < most_stored }
+    {
+        match best {
+            Some(b) if compare(self.rows[b].name(), self.rows[i].name()).is_lt() => b,
+            _ => i,
         }
     }
-    Handle { at: best }
-}
 
-// A hit becomes the most recent; a handle that stands for no Data changes nothing. The store then.
-pub fn touch(packets: &mut Packets, heads: &mut Heads, store: Store, taken: Handle) -> Store
-    ensures touched { after (lent packets) (lent heads) result ≡ recent (placed (lent packets) (lent heads) store taken) (before
-        (lent packets) (lent heads) store) }
-    ensures state { result ≡ state_of (after (lent packets) (lent heads) result) }
-{
-    let n = clamped(store.count, STORED);
-    let i = taken.at;
-    if n == 0 {
-        return Store { count: n };
+    // The Data that a lookup takes, or none: "of those it takes the first in canonical order".
+    pub fn look(&self, name: &[u8], prefix: bool, fresh: bool, time: u64) -> Handle
+        ensures { placed self.now result ≡ given (length (view self.now)) (λ h. h.place) (lookup time name.now prefix fresh (view self.now)) }
+    {
+        let all = self.len();
+        let mut best = None;
+        for i in (0..all).rev() {
+            if self.rows[i].is_served(name, prefix, fresh, time) {
+                best = Some(self.earlier_of(i, best));
+            }
+        }
+        Handle {
+            at: best.unwrap_or(all),
+        }
     }
-    // The last is the most recent already.
-    if i < n - 1 {
-        let row = packets[i];
-        let head = heads[i];
-        let last = take_out(packets, heads, store, i);
-        has_all_packets(*packets);
-        has_all_heads(*heads);
-        packets[last] = row;
-        heads[last] = head;
-        return Store { count: n };
+
+    // A hit becomes the most recent; a handle that stands for no Data changes nothing.
+    pub fn touch(&mut self, taken: Handle)
+        ensures touched { view self.new ≡ recent (placed self.old taken) (view self.old) }
+        ensures counted { count_of self.new ≡ length (view self.new) }
+    {
+        self.count = self.len();
+        if taken.at < self.count {
+            self.rows[taken.at..self.count].rotate_left(1);
+        }
     }
-    Store { count: n }
 }

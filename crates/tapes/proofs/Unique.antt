@@ -1,4 +1,4 @@
--- One result for each input of the reader of an event: any two that its contract admits are equal.
+-- One result for each input of the reader of an event, and of a kind: any two that its contract admits are equal.
 -- Assumes nothing.
 use Prim.Native.Nat.{ℕ}
 use mathlib.Core.Path.{◌≡◌, sym, ap, ◌∙◌}
@@ -7,6 +7,8 @@ use contract.Lifetimes.{Lfts}
 use denote.Triple.Clauses.{AtExit}
 use borrow.Fn.Kinds.{Dens, ended_of, res_t}
 use Rattle.tapes.specs.Places.Event.{taken_at}
+use Rattle.tapes.proofs.KindTryFromU64.try_from.Kinds as kind-kinds
+use Rattle.tapes.proofs.KindTryFromU64.try_from.Reads as kind-reads
 use Rattle.tapes.proofs.event_at.Kinds as kinds
 use Rattle.tapes.proofs.event_at.Reads as reads
 
@@ -19,3 +21,9 @@ event_at_same κs a b x y s t e f p q = p ∙ ap (λ (l : List ℕ). taken_at l 
 pub event_at_one : (κs : Lfts 1) (a : Dens κs kinds.ps) (x y : (res_t kinds.r κs).Denot) (s t : AtExit (ended_of 1 kinds.ps kinds.r) κs)
     → reads.Post κs a x s → reads.Post κs a y t → x ≡ y
 event_at_one κs a x y s t p q = p ∙ sym q
+
+-- the kind that has a number
+pub try_from_one : (κs : Lfts 0) (a : Dens κs kind-kinds.ps) (x y : (res_t kind-kinds.r κs).Denot)
+    (s t : AtExit (ended_of 0 kind-kinds.ps kind-kinds.r) κs)
+    → kind-reads.Post κs a x s → kind-reads.Post κs a y t → x ≡ y
+try_from_one κs a x y s t p q = p ∙ sym q

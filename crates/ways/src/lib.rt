@@ -17,54 +17,36 @@ ghost use Rattle.coming.specs.Places.Found.{limit_of};
 ghost use Rattle.rules.specs.Node.{Node};
 ghost use Rattle.rules.specs.Interest as rules;
 ghost use Rattle.rules.specs.Interest.{Arrival, hop_is_zero, spent, entry_loops, from_local_face};
-ghost use Rattle.rows.specs.Lent.{shown};
 ghost use Rattle.ways.specs.Ways.{loops_by, resends_by};
 ghost use Rattle.ways.specs.Places.Stays.{stays_local};
 ghost use Rattle.ways.specs.Places.Next.{next_of};
 
-use dead::Lines;
-use event::Small;
+use event::Memory;
 use faces::{Faces, common, remove};
-use packets::Hop;
-use pending_order::Numbers;
+use packets::HopLimit;
 use pending_table::{Handle, Pending};
 use routes::Routes;
 use sizes::{MOST_LIFETIME, MOST_TIME};
 
 // "Interest with HopLimit 0"
-pub fn is_zero(hop: Hop) -> bool
+pub fn is_zero(hop: Option<HopLimit>) -> bool
     ensures { result ≡ hop_is_zero (limit_of hop) }
 {
-    match hop {
-        Hop::Absent => false,
-        Hop::Limit(n, _) => n == 0,
-    }
+    hop.is_some_and(|h| h.limit == 0)
 }
 
 // "local if HopLimit is present and is 0 after lowering"
-fn is_spent(hop: Hop) -> bool
+fn is_spent(hop: Option<HopLimit>) -> bool
     ensures { result ≡ spent (limit_of hop) }
 {
-    match hop {
-        Hop::Absent => false,
-        Hop::Limit(n, _) => n <= 1,
-    }
+    hop.is_some_and(|h| h.limit <= 1)
 }
 
 // Whether it may leave on local faces alone, where some request is from a local face or not.
-fn stays_local(hop: Hop, name: &[u8], local: bool) -> bool
+fn stays_local(hop: Option<HopLimit>, name: &[u8], local: bool) -> bool
     ensures { result ≡ stays_local (limit_of hop) name.now local }
 {
-    if is_spent(hop) {
-        return true;
-    }
-    if names::under_localhost(name) {
-        return true;
-    }
-    if local {
-        return false;
-    }
-    names::under_localhop(name)
+    is_spent(hop) || names::under_localhost(name) || !local && names::under_localhop(name)
 }
 
 // "not the arrival face, unless ad hoc": the open faces that are left.
@@ -73,189 +55,91 @@ fn others(faces: Faces, face: usize) -> u64
 {
     let open = faces.all_open();
     if faces.is_ad_hoc(face) {
-        return open;
+        open
+    } else {
+        remove(open, face)
     }
-    remove(open, face)
 }
 
 // "Eligible": the faces on which it may leave, where some request is from a local face or not.
-pub fn eligible(faces: Faces, face: usize, hop: Hop, name: &[u8], local: bool) -> u64
+pub fn eligible(faces: Faces, face: usize, hop: Option<HopLimit>, name: &[u8], local: bool) -> u64
     ensures { (n : Node) (a : Arrival) → n.faces ≡ view faces → a.face ≡ face → a.ask.hop ≡ limit_of hop
         → a.ask.name ≡ name.now → result ≡ faces_where most_faces (rules.eligible n a local) }
 {
     let set = others(faces, face);
     if stays_local(hop, name, local) {
-        return common(set, faces.all_local());
+        common(set, faces.all_local())
+    } else {
+        set
     }
-    set
-}
-
-// A number, or the most that it counts as.
-fn at_most(number: u64, most: u64) -> u64
-    ensures { result ≡ min number most }
-{
-    if most < number {
-        return most;
-    }
-    number
 }
 
 // The expiry of the request that it makes: a time past the last counts as that, and so does a lifetime.
 pub fn expiry_of(time: u64, lifetime: u64) -> u64
     ensures { result ≡ min time most_time + min lifetime most_lifetime }
 {
-    let from = at_most(time, MOST_TIME);
-    from + at_most(lifetime, MOST_LIFETIME)
+    time.min(MOST_TIME) + lifetime.min(MOST_LIFETIME)
 }
 
 // "the face is point-to-point and its own in-record has this nonce"
-fn is_own(
-    names: &pending_table::Names,
-    heads: &pending_table::Heads,
-    recs: &pending_table::Records,
-    numbers: &Numbers,
-    s: Pending,
-    h: Handle,
-    faces: Faces,
-    face: usize,
-    nonce: u64,
-) -> bool
-    ensures { result ≡ given false (λ e. is_peer (view faces) face && own_nonce face nonce e) (entry_at (shown names) (shown heads)
-        (shown recs) (shown numbers) s h) }
+fn is_own(p: &Pending, h: Handle, faces: Faces, face: usize, nonce: u64) -> bool
+    ensures { result ≡ given false (λ e. is_peer (view faces) face && own_nonce face nonce e) (entry_at p.now h) }
 {
-    if faces.is_peer(face) {
-        return pending_handle::own_nonce(names, heads, recs, numbers, s, h, face, nonce);
-    }
-    false
+    faces.is_peer(face) && pending_handle::own_nonce(p, h, face, nonce)
 }
 
 // "the entry has the nonce ..": "The entry does not count if the face is point-to-point and its own in-record has this nonce."
-fn entry_loops(
-    names: &pending_table::Names,
-    heads: &pending_table::Heads,
-    recs: &pending_table::Records,
-    numbers: &Numbers,
-    s: Pending,
-    h: Handle,
-    faces: Faces,
-    face: usize,
-    nonce: u64,
-) -> bool
+fn entry_loops(p: &Pending, h: Handle, faces: Faces, face: usize, nonce: u64) -> bool
     ensures { (n : Node) (a : Arrival) → n.faces ≡ view faces → a.face ≡ face → a.ask.nonce ≡ nonce
-        → result ≡ holds (entry_loops n a) (entry_at (shown names) (shown heads) (shown recs) (shown numbers) s h) }
+        → result ≡ holds (entry_loops n a) (entry_at p.now h) }
 {
-    if is_own(names, heads, recs, numbers, s, h, faces, face, nonce) {
-        return false;
-    }
-    pending_handle::has_nonce(names, heads, recs, numbers, s, h, nonce)
+    !is_own(p, h, faces, face, nonce) && pending_handle::has_nonce(p, h, nonce)
 }
 
 // "LOOP: a live fingerprint equals this one; or the entry has the nonce": of the entry that a handle stands for, if it does.
-pub fn loops(
-    names: &pending_table::Names,
-    heads: &pending_table::Heads,
-    recs: &pending_table::Records,
-    numbers: &Numbers,
-    lines: &Lines,
-    small: Small,
-    start: u64,
-    h: Handle,
-    face: usize,
-    name: &[u8],
-    nonce: u64,
-) -> bool
-    ensures { (n : Node) (a : Arrival) → n.faces ≡ view small.faces
-        → n.dead ≡ dead.before (shown lines) small.ring → a.face ≡ face → a.ask.name ≡ name.now → a.ask.nonce ≡ nonce
-        → result ≡ loops_by start small.time n a (entry_at (shown names) (shown heads) (shown recs) (shown numbers) small.pending h) }
+pub fn loops(m: &Memory, start: u64, h: Handle, face: usize, name: &[u8], nonce: u64) -> bool
+    ensures { (n : Node) (a : Arrival) → n.faces ≡ view m.now.faces → n.dead ≡ dead.view m.now.dead → a.face ≡ face
+        → a.ask.name ≡ name.now → a.ask.nonce ≡ nonce → result ≡ loops_by start m.now.time n a (entry_at m.now.pending h) }
 {
-    let s = small.pending;
-    let faces = small.faces;
-    let ring = small.ring;
     let print = names::fingerprint_from(start, name, nonce);
-    if dead::is_dead(lines, ring, small.time, print) {
-        return true;
-    }
-    entry_loops(names, heads, recs, numbers, s, h, faces, face, nonce)
+    m.dead.is_dead(m.time, print) || entry_loops(&m.pending, h, m.faces, face, nonce)
 }
 
 // Whether some request of an entry is from a local face; a handle of no entry has none.
-fn is_from_local(
-    names: &pending_table::Names,
-    heads: &pending_table::Heads,
-    recs: &pending_table::Records,
-    numbers: &Numbers,
-    s: Pending,
-    h: Handle,
-    faces: Faces,
-) -> bool
-    ensures { (n : Node) → n.faces ≡ view faces → result ≡ holds (from_local_face n) (entry_at (shown names) (shown heads) (shown recs)
-        (shown numbers) s h) }
+fn is_from_local(p: &Pending, h: Handle, faces: Faces) -> bool
+    ensures { (n : Node) → n.faces ≡ view faces → result ≡ holds (from_local_face n) (entry_at p.now h) }
 {
-    let asking = pending_handle::asking_faces(names, heads, recs, numbers, s, h);
-    common(asking, faces.all_local()) != 0
+    common(pending_handle::asking_faces(p, h), faces.all_local()) != 0
 }
 
 // "in the longest matching route, use the cheapest eligible hop without an out-record; failing that, the eligible hop with the earliest
 // one", 0 where there is none or no entry.
-fn choose(
-    prefixes: &routes::Names,
-    settings: &routes::Heads,
-    costs: &routes::Costs,
-    names: &pending_table::Names,
-    heads: &pending_table::Heads,
-    recs: &pending_table::Records,
-    numbers: &Numbers,
-    known: Routes,
-    s: Pending,
-    h: Handle,
-    name: &[u8],
-    may: u64,
-) -> usize
-    ensures { (p : ℕ → Bool) → may ≡ faces_where most_faces p
-        → result ≡ given 0 (λ f. f) (next_of p (longest name.now (routes.before (shown prefixes) (shown settings) (shown costs) known))
-        (entry_at (shown names) (shown heads) (shown recs) (shown numbers) s h)) }
+fn choose(known: &Routes, p: &Pending, h: Handle, name: &[u8], may: u64) -> usize
+    ensures { (q : ℕ → Bool) → may ≡ faces_where most_faces q
+        → result ≡ given 0 (λ f. f) (next_of q (longest name.now (routes.view known.now)) (entry_at p.now h)) }
 {
-    let route = routes::longest(prefixes, settings, costs, known, name);
-    let unsent = pending_handle::unsent(names, heads, recs, numbers, s, h, may);
-    let first = routes::cheapest(prefixes, settings, costs, known, route, unsent);
+    let route = known.longest(name);
+    let unsent = pending_handle::unsent(p, h, may);
+    let first = known.cheapest(route, unsent);
     if first != 0 {
-        return first;
+        first
+    } else {
+        let hops = known.hops_of(route);
+        pending_handle::earliest(p, h, common(hops, may))
     }
-    let hops = routes::hops_of(prefixes, settings, costs, known, route);
-    pending_handle::earliest(names, heads, recs, numbers, s, h, common(hops, may))
 }
 
 // The hop that a further Interest of an entry takes, 0 for none and for no entry: "If the newest out-record was sent under 100 ms ago, send
 // nothing."
-pub fn next_hop(
-    prefixes: &routes::Names,
-    settings: &routes::Heads,
-    costs: &routes::Costs,
-    names: &pending_table::Names,
-    heads: &pending_table::Heads,
-    recs: &pending_table::Records,
-    numbers: &Numbers,
-    small: Small,
-    h: Handle,
-    face: usize,
-    name: &[u8],
-    hop: Hop,
-) -> usize
-    ensures { (n : Node) (a : Arrival) → n.faces ≡ view small.faces
-        → n.routes ≡ routes.before (shown prefixes) (shown settings) (shown costs) small.routes
+pub fn next_hop(m: &Memory, h: Handle, face: usize, name: &[u8], hop: Option<HopLimit>) -> usize
+    ensures { (n : Node) (a : Arrival) → n.faces ≡ view m.now.faces → n.routes ≡ routes.view m.now.routes
         → a.face ≡ face → a.ask.name ≡ name.now → a.ask.hop ≡ limit_of hop
-        → result ≡ given 0 (λ f. f) (resends_by small.time n a (entry_at (shown names) (shown heads) (shown recs)
-        (shown numbers) small.pending h)) }
+        → result ≡ given 0 (λ f. f) (resends_by m.now.time n a (entry_at m.now.pending h)) }
 {
-    let s = small.pending;
-    let faces = small.faces;
-    let known = small.routes;
-    if pending_handle::is_suppressed(names, heads, recs, numbers, s, h, small.time) {
+    if pending_handle::is_suppressed(&m.pending, h, m.time) {
         return 0;
     }
-    let local = is_from_local(names, heads, recs, numbers, s, h, faces);
-    let may = eligible(faces, face, hop, name, local);
-    choose(
-        prefixes, settings, costs, names, heads, recs, numbers, known, s, h, name, may,
-    )
+    let local = is_from_local(&m.pending, h, m.faces);
+    let may = eligible(m.faces, face, hop, name, local);
+    choose(&m.routes, &m.pending, h, name, may)
 }

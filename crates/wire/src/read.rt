@@ -1,5 +1,5 @@
 // Reading: "Types and lengths are TLV variable numbers of 1, 3, 5 or 9 bytes, shortest form only."
-ghost use Rattle.std.specs.Prelude.{◌≡◌, ◌+◌, ◌<◌, ◌≤◌, length, take, drop};
+ghost use Rattle.std.specs.Prelude.{◌≡◌, ◌≤◌, length};
 ghost use Rattle.wire.specs.Number.{big, width_of};
 ghost use Rattle.wire.specs.Places.Place.{long_number_at, any_number_at, number_at, element_at, whole_of};
 
@@ -17,214 +17,119 @@ pub struct Element {
     pub len: usize,
 }
 
-// A variable number with the cursor past it, or the fault.
-#[derive(Clone, Copy)]
-pub enum Number {
-    Bad,
-    Is(u64, Cursor),
-}
-
-// An element with the cursor past it, or the fault.
-#[derive(Clone, Copy)]
-pub enum Read {
-    Bad,
-    Is(Element, Cursor),
-}
-
-// A whole number that fills an element, or the fault.
-#[derive(Clone, Copy)]
-pub enum Whole {
-    Bad,
-    Is(u64),
-}
+// "Type is 1 to 2^32-1"
+const HIGHEST_TYPE: u64 = 4294967295;
 
 // How many bytes the shortest form of n takes.
 pub fn width_of(n: u64) -> usize
     ensures { result ≡ width_of n }
 {
-    if n < 253 {
-        return 1;
+    match n {
+        0..=252 => 1,
+        253..=65535 => 3,
+        65536..=4294967295 => 5,
+        _ => 9,
     }
-    if n < 65536 {
-        return 3;
-    }
-    if n < 4294967296 {
-        return 5;
-    }
-    9
 }
 
-// Two bytes from a place on, the higher first.
-fn two_at(s: &[u8], at: usize) -> u64
-    requires { at + 2 ≤ length s.now }
-    ensures { (result ≡ big 0 (take 2 (drop at s.now))) × (result < 65536) }
+// The number that at most eight bytes make, the highest first.
+fn big_of(bytes: &[u8]) -> u64
+    requires { length bytes.now ≤ 8 }
+    ensures { result ≡ big 0 bytes.now }
 {
-    let hi = s[at] as u64;
-    let lo = s[at + 1] as u64;
-    hi * 256 + lo
-}
-
-// Four bytes from a place on, the highest first.
-fn four_at(s: &[u8], at: usize) -> u64
-    requires { at + 4 ≤ length s.now }
-    ensures { (result ≡ big 0 (take 4 (drop at s.now))) × (result < 4294967296) }
-{
-    let hi = two_at(s, at);
-    let lo = two_at(s, at + 2);
-    hi * 65536 + lo
-}
-
-// Eight bytes from a place on, the highest first.
-fn eight_at(s: &[u8], at: usize) -> u64
-    requires { at + 8 ≤ length s.now }
-    ensures { result ≡ big 0 (take 8 (drop at s.now)) }
-{
-    let hi = four_at(s, at);
-    let lo = four_at(s, at + 4);
-    hi * 4294967296 + lo
+    let mut n = 0;
+    for b in bytes {
+        n = n * 256 + u64::from(*b);
+    }
+    n
 }
 
 // "Whole numbers in elements take 1, 2, 4 or 8 bytes."
-pub fn whole_number(s: &[u8]) -> Whole
+pub fn whole_number(s: &[u8]) -> Option<u64>
     ensures { result ≡ whole_of s.now }
 {
-    if s.len() == 1 {
-        return Whole::Is(s[0] as u64);
+    match s.len() {
+        1 | 2 | 4 | 8 => Some(big_of(s)),
+        _ => None,
     }
-    if s.len() == 2 {
-        return Whole::Is(two_at(s, 0));
-    }
-    if s.len() == 4 {
-        return Whole::Is(four_at(s, 0));
-    }
-    if s.len() == 8 {
-        return Whole::Is(eight_at(s, 0));
-    }
-    Whole::Bad
 }
 
 impl Cursor {
-    // The number whose first byte b, 253 or more, the cursor has passed.
-    fn long_number(self, s: &[u8], b: u64) -> Number
+    // The number whose first byte b, 253 or more, the cursor has passed: b says how many bytes it has.
+    fn long_number(self, s: &[u8], b: u64) -> Option<(u64, Cursor)>
         requires { self.at ≤ length s.now }
         ensures { result ≡ long_number_at s.now b self.at }
     {
-        let at = self.at;
-        let left = s.len() - at;
-        if b == 253 {
-            if left < 2 {
-                return Number::Bad;
-            }
-            return Number::Is(two_at(s, at), Cursor { at: at + 2 });
-        }
-        if b == 254 {
-            if left < 4 {
-                return Number::Bad;
-            }
-            return Number::Is(four_at(s, at), Cursor { at: at + 4 });
-        }
-        if left < 8 {
-            return Number::Bad;
-        }
-        Number::Is(eight_at(s, at), Cursor { at: at + 8 })
+        let width = match b {
+            253 => 2,
+            254 => 4,
+            _ => 8,
+        };
+        let bytes = s[self.at..].get(..width)?;
+        Some((
+            big_of(bytes),
+            Cursor {
+                at: self.at + width,
+            },
+        ))
     }
 
     // A variable number in any of its forms, shortest or not.
-    pub fn any_number(self, s: &[u8]) -> Number
+    pub fn any_number(self, s: &[u8]) -> Option<(u64, Cursor)>
         ensures { result ≡ any_number_at s.now self.at }
     {
-        let at = self.at;
-        if s.len() <= at {
-            return Number::Bad;
-        }
-        let b = s[at] as u64;
-        let next = Cursor { at: at + 1 };
+        let b = u64::from(*s.get(self.at)?);
+        let next = Cursor { at: self.at + 1 };
         if b < 253 {
-            return Number::Is(b, next);
+            Some((b, next))
+        } else {
+            next.long_number(s, b)
         }
-        next.long_number(s, b)
     }
 
     // A variable number in its shortest form.
-    pub fn number(self, s: &[u8]) -> Number
+    pub fn number(self, s: &[u8]) -> Option<(u64, Cursor)>
         ensures { result ≡ number_at s.now self.at }
     {
-        let at = self.at;
-        match self.any_number(s) {
-            Number::Bad => Number::Bad,
-            Number::Is(v, next) => {
-                let end = next.at;
-                if end - at == width_of(v) {
-                    return Number::Is(v, next);
-                }
-                Number::Bad
-            }
+        let (v, next) = self.any_number(s)?;
+        if next.at - self.at == width_of(v) {
+            Some((v, next))
+        } else {
+            None
         }
     }
 
-    // An element whose type and length may have any form.
-    fn long_element(self, s: &[u8]) -> Read
+    // An element whose type and length may have any form. It is kept out of `element`, so that that stays small.
+    #[inline(never)]
+    fn long_element(self, s: &[u8]) -> Option<(Element, Cursor)>
         ensures { result ≡ element_at s.now self.at }
     {
-        match self.number(s) {
-            Number::Bad => Read::Bad,
-            Number::Is(t, c) => {
-                if t < 1 {
-                    return Read::Bad;
-                }
-                if 4294967295 < t {
-                    return Read::Bad;
-                }
-                match c.number(s) {
-                    Number::Bad => Read::Bad,
-                    Number::Is(n, d) => {
-                        let at = d.at;
-                        let left = s.len() - at;
-                        if (left as u64) < n {
-                            return Read::Bad;
-                        }
-                        let len = n as usize;
-                        Read::Is(
-                            Element {
-                                typ: t,
-                                at: at,
-                                len: len,
-                            },
-                            Cursor { at: at + len },
-                        )
-                    }
-                }
-            }
+        let (typ, c) = self.number(s)?;
+        if typ < 1 || HIGHEST_TYPE < typ {
+            return None;
         }
+        let (n, d) = c.number(s)?;
+        if ((s.len() - d.at) as u64) < n {
+            return None;
+        }
+        let len = n as usize;
+        Some((Element { typ, at: d.at, len }, Cursor { at: d.at + len }))
     }
 
     // "Each element ends within its parent": the element at the cursor with the cursor past it, or the fault. The usual form, a
     // byte each for type and length, comes first, and is small enough to be compiled into the callers.
-    pub fn element(self, s: &[u8]) -> Read
+    pub fn element(self, s: &[u8]) -> Option<(Element, Cursor)>
         ensures { result ≡ element_at s.now self.at }
     {
         let at = self.at;
-        if at < s.len() {
+        if at < s.len() && 2 <= s.len() - at {
             let left = s.len() - at;
-            if 2 <= left {
-                let t = s[at] as u64;
-                let n = s[at + 1] as usize;
-                let b = at + 2;
-                if 0 < t {
-                    if t < 253 {
-                        if n < 253 {
-                            if n <= left - 2 {
-                                return Read::Is(
-                                    Element {
-                                        typ: t,
-                                        at: b,
-                                        len: n,
-                                    },
-                                    Cursor { at: b + n },
-                                );
-                            }
-                        }
-                    }
+            let typ = u64::from(s[at]);
+            let n = usize::from(s[at + 1]);
+            let b = at + 2;
+            if 0 < typ && typ < 253 && n < 253 {
+                if n <= left - 2 {
+                    return Some((Element { typ, at: b, len: n }, Cursor { at: b + n }));
                 }
             }
         }

@@ -3,7 +3,7 @@ ghost use Rattle.std.specs.Prelude.{◌≡◌};
 ghost use Rattle.wire.specs.Verdict.{is_malformed, is_unsupported};
 
 // Fine; malformed, "bytes break the grammar" (5); or unsupported, "marked so" (6).
-#[derive(Clone, Copy)]
+#[derive(Clone, Copy, Debug, PartialEq, Eq)]
 pub enum Verdict {
     Fine,
     Malformed,
@@ -15,21 +15,13 @@ impl Verdict {
     pub fn is_malformed(self) -> bool
         ensures { result ≡ is_malformed self }
     {
-        match self {
-            Verdict::Fine => false,
-            Verdict::Malformed => true,
-            Verdict::Unsupported => false,
-        }
+        self == Verdict::Malformed
     }
 
     // Whether it is unsupported.
     pub fn is_unsupported(self) -> bool
         ensures { result ≡ is_unsupported self }
     {
-        match self {
-            Verdict::Fine => false,
-            Verdict::Malformed => false,
-            Verdict::Unsupported => true,
-        }
+        self == Verdict::Unsupported
     }
 }

@@ -12,10 +12,9 @@ ghost use Rattle.grammar.specs.Types as types;
 ghost use Rattle.writing.specs.Places.Stored.{Room, Stored};
 
 use grammar::types;
-use packets::Hop;
-use wire::Put;
+use packets::HopLimit;
 
-// The types that are written, as numbers of an element's head.
+// The types that are written, as the `u64` that an element's head takes. By `as`: a constant's value may call no conversion.
 const INTEREST: u64 = types::INTEREST as u64;
 
 const NAME: u64 = types::NAME as u64;
@@ -34,6 +33,18 @@ const NACK: u64 = types::NACK as u64;
 
 const NACK_REASON: u64 = types::NACK_REASON as u64;
 
+// How many bytes a Nonce has.
+const NONCE_LEN: usize = 4;
+
+// The Interest that a Nack gives back: its Name, its two flags and its Nonce.
+#[derive(Clone, Copy)]
+pub struct Request<'a> {
+    pub name: &'a [u8],
+    pub prefix: bool,
+    pub fresh: bool,
+    pub nonce: u64,
+}
+
 // How many bytes an element takes whose value has `len` bytes.
 fn element_len(typ: u64, len: usize) -> usize
     requires { len + 18 < 2 ^ 64 }
@@ -46,18 +57,7 @@ fn element_len(typ: u64, len: usize) -> usize
 fn flag_len(typ: u64, on: bool) -> usize
     ensures { length (flag typ on) ≡ result }
 {
-    if on {
-        return element_len(typ, 0);
-    }
-    0
-}
-
-// How many bytes the value of the Interest in a Nack takes.
-fn request_len(name: &[u8], prefix: bool, fresh: bool) -> usize
-    ensures { (nonce : ℕ) → length (request_value name.now prefix fresh nonce) ≡ result }
-{
-    let flags = flag_len(CAN_BE_PREFIX, prefix) + flag_len(MUST_BE_FRESH, fresh);
-    element_len(NAME, name.len()) + flags + element_len(NONCE, 4)
+    if on { element_len(typ, 0) } else { 0 }
 }
 
 // How many bytes the NackReason takes.
@@ -65,39 +65,33 @@ fn reason_len(reason: u8) -> usize
     ensures { length (reason_bytes reason) ≡ result }
 {
     if reason == 0 {
-        return 0;
+        0
+    } else {
+        element_len(NACK_REASON, 1)
     }
-    element_len(NACK_REASON, 1)
 }
 
 // How many bytes the value of the LpPacket takes.
-fn nack_len(reason: u8, name: &[u8], prefix: bool, fresh: bool) -> usize
-    ensures { (nonce : ℕ) → length (nack_value reason name.now prefix fresh nonce) ≡ result }
+fn nack_len(reason: u8, request: Request) -> usize
+    ensures { let r = request.entry in length (nack_value reason r.name.now r.prefix r.fresh r.nonce) ≡ result }
 {
-    let request = element_len(INTEREST, request_len(name, prefix, fresh));
-    element_len(NACK, reason_len(reason)) + element_len(FRAGMENT, request)
+    element_len(NACK, reason_len(reason)) + element_len(FRAGMENT, request.len())
 }
 
-// An element's head.
+// An element's head. There is room for it, so that `at` is never what `unwrap_or` answers.
 fn store_head(buf: &mut [u8], at: usize, typ: u64, len: usize) -> usize
     requires { Room buf.old at (head_of typ len) }
     ensures { Stored buf.old at (head_of typ len) buf.new result }
 {
-    match wire::put_head(buf, at, typ, len as u64) {
-        Put::Full => at,
-        Put::Next(next) => next,
-    }
+    wire::put_head(buf, at, typ, len as u64).unwrap_or(at)
 }
 
-// The bytes of `src`.
+// The bytes of `src`, for which there is room too.
 fn store_bytes(buf: &mut [u8], at: usize, src: &[u8]) -> usize
     requires { Room buf.old at src.now }
     ensures { Stored buf.old at src.now buf.new result }
 {
-    match wire::put_bytes(buf, at, src) {
-        Put::Full => at,
-        Put::Next(next) => next,
-    }
+    wire::put_bytes(buf, at, src).unwrap_or(at)
 }
 
 // An element.
@@ -114,10 +108,7 @@ fn store_flag(buf: &mut [u8], at: usize, typ: u64, on: bool) -> usize
     requires { Room buf.old at (flag typ on) }
     ensures { Stored buf.old at (flag typ on) buf.new result }
 {
-    if on {
-        return store_head(buf, at, typ, 0);
-    }
-    at
+    if on { store_head(buf, at, typ, 0) } else { at }
 }
 
 // The Nonce: four bytes, the highest first.
@@ -125,47 +116,55 @@ fn store_nonce(buf: &mut [u8], at: usize, nonce: u64) -> usize
     requires { Room buf.old at (written 0x0A (bytes_of 4 nonce)) }
     ensures { Stored buf.old at (written 0x0A (bytes_of 4 nonce)) buf.new result }
 {
-    let bytes = [
-        (nonce / 16777216 % 256) as u8,
-        (nonce / 65536 % 256) as u8,
-        (nonce / 256 % 256) as u8,
-        (nonce % 256) as u8,
-    ];
-    store_element(buf, at, NONCE, &bytes)
+    let bytes = nonce.to_be_bytes();
+    store_element(buf, at, NONCE, &bytes[bytes.len() - NONCE_LEN..])
 }
 
-// The value of the Interest in a Nack: Name, flags and Nonce.
-fn store_request_value(
-    buf: &mut [u8],
-    at: usize,
-    name: &[u8],
-    prefix: bool,
-    fresh: bool,
-    nonce: u64,
-) -> usize
-    requires { Room buf.old at (request_value name.now prefix fresh nonce) }
-    ensures { Stored buf.old at (request_value name.now prefix fresh nonce) buf.new result }
-{
-    let first = store_element(buf, at, NAME, name);
-    let second = store_flag(buf, first, CAN_BE_PREFIX, prefix);
-    let third = store_flag(buf, second, MUST_BE_FRESH, fresh);
-    store_nonce(buf, third, nonce)
-}
+impl Request<'_> {
+    // How many bytes the Interest's value takes.
+    fn value_len(self) -> usize
+        ensures { let r = self.entry in length (request_value r.name.now r.prefix r.fresh r.nonce) ≡ result }
+    {
+        let flags = flag_len(CAN_BE_PREFIX, self.prefix) + flag_len(MUST_BE_FRESH, self.fresh);
+        element_len(NAME, self.name.len()) + flags + element_len(NONCE, NONCE_LEN)
+    }
 
-// The Interest in a Nack.
-fn store_request(
-    buf: &mut [u8],
-    at: usize,
-    name: &[u8],
-    prefix: bool,
-    fresh: bool,
-    nonce: u64,
-) -> usize
-    requires { Room buf.old at (request_bytes name.now prefix fresh nonce) }
-    ensures { Stored buf.old at (request_bytes name.now prefix fresh nonce) buf.new result }
-{
-    let from = store_head(buf, at, INTEREST, request_len(name, prefix, fresh));
-    store_request_value(buf, from, name, prefix, fresh, nonce)
+    // How many bytes the Interest takes.
+    fn len(self) -> usize
+        ensures { let r = self.entry in length (request_bytes r.name.now r.prefix r.fresh r.nonce) ≡ result }
+    {
+        element_len(INTEREST, self.value_len())
+    }
+
+    // The Interest's value: Name, flags and Nonce.
+    fn store_value(self, buf: &mut [u8], at: usize) -> usize
+        requires { Room buf.old at (request_value self.name.now self.prefix self.fresh self.nonce) }
+        ensures { let r = self.entry in Stored buf.old at (request_value r.name.now r.prefix r.fresh r.nonce) buf.new result }
+    {
+        let first = store_element(buf, at, NAME, self.name);
+        let second = store_flag(buf, first, CAN_BE_PREFIX, self.prefix);
+        let third = store_flag(buf, second, MUST_BE_FRESH, self.fresh);
+        store_nonce(buf, third, self.nonce)
+    }
+
+    // The Interest.
+    fn store(self, buf: &mut [u8], at: usize) -> usize
+        requires { Room buf.old at (request_bytes self.name.now self.prefix self.fresh self.nonce) }
+        ensures { let r = self.entry in Stored buf.old at (request_bytes r.name.now r.prefix r.fresh r.nonce) buf.new result }
+    {
+        let from = store_head(buf, at, INTEREST, self.value_len());
+        self.store_value(buf, from)
+    }
+
+    // The Fragment, which holds the Interest.
+    fn store_fragment(self, buf: &mut [u8], at: usize) -> usize
+        requires { Room buf.old at (written types.fragment (request_bytes self.name.now self.prefix self.fresh self.nonce)) }
+        ensures { let r = self.entry in
+            Stored buf.old at (written types.fragment (request_bytes r.name.now r.prefix r.fresh r.nonce)) buf.new result }
+    {
+        let from = store_head(buf, at, FRAGMENT, self.len());
+        self.store(buf, from)
+    }
 }
 
 // The NackReason, left out for reason 0.
@@ -174,9 +173,10 @@ fn store_reason(buf: &mut [u8], at: usize, reason: u8) -> usize
     ensures { Stored buf.old at (reason_bytes reason) buf.new result }
 {
     if reason == 0 {
-        return at;
+        at
+    } else {
+        store_element(buf, at, NACK_REASON, &[reason])
     }
-    store_element(buf, at, NACK_REASON, &[reason])
 }
 
 // The element Nack, which holds the NackReason.
@@ -188,112 +188,56 @@ fn store_cause(buf: &mut [u8], at: usize, reason: u8) -> usize
     store_reason(buf, from, reason)
 }
 
-// The Fragment, which holds the Interest.
-fn store_fragment(
-    buf: &mut [u8],
-    at: usize,
-    name: &[u8],
-    prefix: bool,
-    fresh: bool,
-    nonce: u64,
-) -> usize
-    requires { Room buf.old at (written types.fragment (request_bytes name.now prefix fresh nonce)) }
-    ensures { Stored buf.old at (written types.fragment (request_bytes name.now prefix fresh nonce))
-        buf.new result }
+// The LpPacket: its value is the element Nack, and then the Fragment.
+fn store_nack(buf: &mut [u8], at: usize, reason: u8, request: Request) -> usize
+    requires { Room buf.old at (nack_bytes reason request.name.now request.prefix request.fresh request.nonce) }
+    ensures { let r = request.entry in Stored buf.old at (nack_bytes reason r.name.now r.prefix r.fresh r.nonce) buf.new result }
 {
-    let len = element_len(INTEREST, request_len(name, prefix, fresh));
-    let from = store_head(buf, at, FRAGMENT, len);
-    store_request(buf, from, name, prefix, fresh, nonce)
-}
-
-// The value of the LpPacket: the element Nack, and then the Fragment.
-fn store_nack_value(
-    buf: &mut [u8],
-    at: usize,
-    reason: u8,
-    name: &[u8],
-    prefix: bool,
-    fresh: bool,
-    nonce: u64,
-) -> usize
-    requires { Room buf.old at (nack_value reason name.now prefix fresh nonce) }
-    ensures { Stored buf.old at (nack_value reason name.now prefix fresh nonce) buf.new result }
-{
-    let fragment = store_cause(buf, at, reason);
-    store_fragment(buf, fragment, name, prefix, fresh, nonce)
-}
-
-// The LpPacket.
-fn store_nack(
-    buf: &mut [u8],
-    at: usize,
-    reason: u8,
-    name: &[u8],
-    prefix: bool,
-    fresh: bool,
-    nonce: u64,
-) -> usize
-    requires { Room buf.old at (nack_bytes reason name.now prefix fresh nonce) }
-    ensures { Stored buf.old at (nack_bytes reason name.now prefix fresh nonce) buf.new result }
-{
-    let from = store_head(buf, at, LP_PACKET, nack_len(reason, name, prefix, fresh));
-    store_nack_value(buf, from, reason, name, prefix, fresh, nonce)
+    let from = store_head(buf, at, LP_PACKET, nack_len(reason, request));
+    let fragment = store_cause(buf, from, reason);
+    request.store_fragment(buf, fragment)
 }
 
 // "A Nack is written as LpPacket with Nack, NackReason (left out for reason 0), and an Interest of Name, the two flags and Nonce only."
-pub fn write_nack(
-    buf: &mut [u8],
-    at: usize,
-    reason: u8,
-    name: &[u8],
-    prefix: bool,
-    fresh: bool,
-    nonce: u64,
-) -> Put
-    ensures { outcome result buf.new ≡ wrote buf.old at (nack_bytes reason name.now prefix fresh nonce) }
+pub fn write_nack(buf: &mut [u8], at: usize, reason: u8, request: Request) -> Option<usize>
+    ensures { let r = request.entry in
+        outcome result buf.new ≡ wrote buf.old at (nack_bytes reason r.name.now r.prefix r.fresh r.nonce) }
 {
-    let len = element_len(LP_PACKET, nack_len(reason, name, prefix, fresh));
-    if buf.len() < at {
-        return Put::Full;
+    let len = element_len(LP_PACKET, nack_len(reason, request));
+    if !wire::fits(buf.len(), at, len) {
+        return None;
     }
-    if buf.len() - at < len {
-        return Put::Full;
-    }
-    Put::Next(store_nack(buf, at, reason, name, prefix, fresh, nonce))
+    Some(store_nack(buf, at, reason, request))
 }
 
 // "The Interest leaves as it came without its Lp header, HopLimit one lower."
-pub fn write_interest(buf: &mut [u8], at: usize, bare: &[u8], hop: Hop) -> Put
+pub fn write_interest(
+    buf: &mut [u8],
+    at: usize,
+    bare: &[u8],
+    hop: Option<HopLimit>,
+) -> Option<usize>
     ensures { outcome result buf.new ≡ wrote buf.old at (lowered bare.now hop) }
 {
-    match wire::put_bytes(buf, at, bare) {
-        Put::Full => Put::Full,
-        Put::Next(end) => match hop {
-            Hop::Absent => Put::Next(end),
-            Hop::Limit(limit, place) => {
-                lower(buf, at, bare.len(), limit, place);
-                Put::Next(end)
-            }
-        },
+    let end = wire::put_bytes(buf, at, bare)?;
+    if let Some(hop) = hop {
+        lower(buf, at, bare.len(), hop);
     }
+    Some(end)
 }
 
-// The HopLimit, at `place` within `len` bytes that stand at `at`, one lower than `limit`.
-fn lower(buf: &mut [u8], at: usize, len: usize, limit: u64, place: usize)
+// One lower, the HopLimit of an Interest of `len` bytes that stands at `at`.
+fn lower(buf: &mut [u8], at: usize, len: usize, hop: HopLimit)
     requires { at + len ≤ length buf.old }
-    ensures { buf.new ≡ pick (ltb place len) (set buf.old (at + place) ((limit - 1) % 256)) buf.old }
+    ensures { buf.new ≡ pick (ltb hop.at len) (set buf.old (at + hop.at) ((hop.limit - 1) % 256)) buf.old }
 {
-    if place < len {
-        if limit == 0 {
-            buf[at + place] = 0;
-            return;
-        }
-        buf[at + place] = ((limit - 1) % 256) as u8;
+    if hop.at < len {
+        buf[at + hop.at] = (hop.limit.saturating_sub(1) % 256) as u8;
     }
 }
 
 // "Data leaves without its Lp header."
-pub fn write_data(buf: &mut [u8], at: usize, bare: &[u8]) -> Put
+pub fn write_data(buf: &mut [u8], at: usize, bare: &[u8]) -> Option<usize>
     ensures { outcome result buf.new ≡ wrote buf.old at bare.now }
 {
     wire::put_bytes(buf, at, bare)

@@ -1,12 +1,11 @@
 -- A bare packet that came in, by what the code asks: the guard, and what the reader found.
 -- Assumes nothing.
-use Rattle.std.specs.Prelude.{ℕ, ◌≤◌, ◌≡◌, Bool, List, ◌≢◌, length}
+use Rattle.std.specs.Prelude.{ℕ, ◌≤◌, ◌≡◌, Bool, List, ◌≢◌, length, Option, Result, Ok, Err}
 use Rattle.std.proofs.Math.Path.{sym, ap}
 use Rattle.std.proofs.Common.{◌∙◌}
 use Rattle.answers.specs.declared.Answer.{Answer}
 use Rattle.answers.specs.Number.{number_of}
 use Rattle.sizes.specs.Sizes.{most_name}
-use Rattle.packethead.specs.declared.header.Nacked.{Nacked}
 use Rattle.packethead.specs.Name.{name_of}
 use Rattle.packets.specs.declared.bare.Interest.{Interest}
 use Rattle.packets.specs.declared.bare.Data.{Data}
@@ -29,7 +28,7 @@ use Rattle.coming.specs.Laws.Goes.{goes_by, goes_quiet}
 use Rattle.arriving.specs.Coming.{comes_in}
 use Rattle.arriving.specs.Laws.Found.{refused_found, asks_found, brings_found, nacks_found}
 
-module _ (n : Node) (k room f : ℕ) (nack : Nacked) (mark : Bool) (l : List ℕ) (y : Answer)
+module _ (n : Node) (k room f : ℕ) (nack : Option ℕ) (mark : Bool) (l : List ℕ) (y : Answer)
     (asked : y ≡ guard_says n.time room (length l) 0) where
   -- what the guard refuses
   pub arrive_stops : (r : Came) (o : Output) → number_of y ≢ 0 → r.answer ≡ y → r.sent ≡ 0 → r.made ≡ k
@@ -38,7 +37,7 @@ module _ (n : Node) (k room f : ℕ) (nack : Nacked) (mark : Bool) (l : List ℕ
   arrive_stops r o d ea es em =
       goes_by k _ (quiet y n) r n o o (guard_stops n _ room (length l) 0 y asked d) (goes_quiet k y r n o ea es em)
 
-  module _ (d : number_of y ≡ 0) (p : Packet) (said : p ≡ packet_in (length l) (bare_read nack mark l)) where
+  module _ (d : number_of y ≡ 0) (p : Result Packet Answer) (said : p ≡ packet_in (length l) (bare_read nack mark l)) where
     -- past the guard it is what arrives
     past : (h : Heard) → heard_bare nack mark l ≡ h → comes_in room nack mark l f n ≡ arrives n.time n f h
     unfolding comes_in
@@ -51,7 +50,7 @@ module _ (n : Node) (k room f : ℕ) (nack : Nacked) (mark : Bool) (l : List ℕ
         (guard_room n.time room (length l) 0 y asked d) (guard_packet n.time room (length l) 0 y asked d) short
 
     -- what the reader refuses
-    pub arrive_refused : (a : Answer) → p ≡ Packet.Refused a → (r : Came) (o : Output) → r.answer ≡ a → r.sent ≡ 0 → r.made ≡ k
+    pub arrive_refused : (a : Answer) → p ≡ Err a → (r : Came) (o : Output) → r.answer ≡ a → r.sent ≡ 0 → r.made ≡ k
         → Goes k (comes_in room nack mark l f n) r n o o
     unfolding arrives
     arrive_refused a e r o ea es em =
@@ -59,7 +58,7 @@ module _ (n : Node) (k room f : ℕ) (nack : Nacked) (mark : Bool) (l : List ℕ
 
     module _ (r : Came) (n' : Node) (o o' : Output) where
       -- an Interest
-      pub arrive_asks : (i : Interest) → p ≡ Packet.Interest i
+      pub arrive_asks : (i : Interest) → p ≡ Ok (Packet.Interest i)
           → Goes k (guarded room (length l) (length (name_of l)) n (interest_step n.time n (arrival_found f l i))) r n' o o'
           → Goes k (comes_in room nack mark l f n) r n' o o'
       unfolding arrives arrival_found
@@ -68,7 +67,7 @@ module _ (n : Node) (k room f : ℕ) (nack : Nacked) (mark : Bool) (l : List ℕ
           goes_by k _ _ r n' o o' (past _ h.0 ∙ sym (again _ h.1)) g
 
       -- a Data
-      pub arrive_brings : (d : Data) → p ≡ Packet.Data d
+      pub arrive_brings : (d : Data) → p ≡ Ok (Packet.Data d)
           → Goes k (guarded room (length l) (length (name_of l)) n (data_step n.time n f (offer_found l d) l)) r n' o o'
           → Goes k (comes_in room nack mark l f n) r n' o o'
       unfolding arrives
@@ -77,7 +76,7 @@ module _ (n : Node) (k room f : ℕ) (nack : Nacked) (mark : Bool) (l : List ℕ
           goes_by k _ _ r n' o o' (past _ h.0 ∙ sym (again _ h.1)) g
 
       -- a Nack
-      pub arrive_nacks : (reason : ℕ) (i : Interest) → p ≡ Packet.Nack reason i
+      pub arrive_nacks : (reason : ℕ) (i : Interest) → p ≡ Ok (Packet.Nack reason i)
           → Goes k (guarded room (length l) (length (name_of l)) n (nack_step n.time n f reason (ask_found l i))) r n' o o'
           → Goes k (comes_in room nack mark l f n) r n' o o'
       unfolding arrives

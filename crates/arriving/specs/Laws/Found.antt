@@ -1,13 +1,12 @@
 -- What the readers found in a bare packet is what the rules are told of it, and its name is within its size.
 -- Assumes nothing.
-use Rattle.std.specs.Prelude.{ℕ, ◌≤◌, min, Bool, List, length, ltb}
+use Rattle.std.specs.Prelude.{ℕ, ◌≤◌, min, Bool, List, length, ltb, Option, Result, Ok, Err}
 use Rattle.std.proofs.Math.Path.{◌≡◌, refl}
 use Rattle.std.proofs.Common.{sym, ◌∙◌, arith, ltb-false}
 use Rattle.answers.specs.declared.Answer.{Answer}
 use Rattle.laws.specs.Laws.Pick.{pick_ind}
 use Rattle.sizes.specs.Sizes.{most_name, most_lifetime, most_freshness}
 use Rattle.grammar.specs.Walk.{Field, absent, here, Fields}
-use Rattle.packethead.specs.declared.header.Nacked.{Nacked}
 use Rattle.packethead.specs.Header.{val, bytes_in, whole_number}
 use Rattle.packethead.specs.Name.{name_of}
 use Rattle.packets.specs.declared.bare.Interest.{Interest}
@@ -61,25 +60,25 @@ offer_found_lem : (l : List ℕ) (f g : Fields) (d : Data) → name_of l ≡ byt
 unfolding offer_found offer_of
 offer_found_lem l f g d e h = rw (e, h, freshness_counts (val g 2))
 
-module _ (k : Nacked) (m : Bool) (l : List ℕ) (p : Packet) (said : p ≡ packet_in (length l) (bare_read k m l)) where
+module _ (k : Option ℕ) (m : Bool) (l : List ℕ) (p : Result Packet Answer) (said : p ≡ packet_in (length l) (bare_read k m l)) where
   -- what is refused is refused
-  pub refused_found : (a : Answer) → p ≡ Packet.Refused a → heard_bare k m l ≡ refused a
+  pub refused_found : (a : Answer) → p ≡ Err a → heard_bare k m l ≡ refused a
   unfolding packet_in meant
   refused_found a e = bare_means k m l ∙ go (bare_read k m l) (sym said ∙ e)
     where
-      go : (r : Reading) → packet_in (length l) r ≡ Packet.Refused a → meant l r ≡ refused a
+      go : (r : Reading) → packet_in (length l) r ≡ Err a → meant l r ≡ refused a
       go (bare.refused b) w = cc
       go (bare.asks f) w = absurd (let z : ◌≡◌ {A = ℕ} 0 1 = cc in omega arith)
       go (bare.brings f g) w = absurd (let z : ◌≡◌ {A = ℕ} 0 1 = cc in omega arith)
       go (bare.nacks n f) w = absurd (let z : ◌≡◌ {A = ℕ} 0 1 = cc in omega arith)
 
   -- an Interest
-  pub asks_found : (i : Interest) → p ≡ Packet.Interest i
+  pub asks_found : (i : Interest) → p ≡ Ok (Packet.Interest i)
       → (heard_bare k m l ≡ asks (ask_found l i) (lowered l i.hop)) × (length (name_of l) ≤ most_name)
   unfolding packet_in meant interest_in
   asks_found i e = go (bare_read k m l) refl (sym said ∙ e)
     where
-      go : (r : Reading) → bare_read k m l ≡ r → packet_in (length l) r ≡ Packet.Interest i
+      go : (r : Reading) → bare_read k m l ≡ r → packet_in (length l) r ≡ Ok (Packet.Interest i)
           → (heard_bare k m l ≡ asks (ask_found l i) (lowered l i.hop)) × (length (name_of l) ≤ most_name)
       go (bare.refused b) q w = absurd (let z : ◌≡◌ {A = ℕ} 0 1 = cc in omega arith)
       go (bare.brings f g) q w = absurd (let z : ◌≡◌ {A = ℕ} 0 1 = cc in omega arith)
@@ -92,12 +91,12 @@ module _ (k : Nacked) (m : Bool) (l : List ℕ) (p : Packet) (said : p ≡ packe
           )
 
   -- a Data
-  pub brings_found : (d : Data) → p ≡ Packet.Data d
+  pub brings_found : (d : Data) → p ≡ Ok (Packet.Data d)
       → (heard_bare k m l ≡ brings (offer_found l d) l) × (length (name_of l) ≤ most_name)
   unfolding packet_in meant
   brings_found d e = go (bare_read k m l) refl (sym said ∙ e)
     where
-      go : (r : Reading) → bare_read k m l ≡ r → packet_in (length l) r ≡ Packet.Data d
+      go : (r : Reading) → bare_read k m l ≡ r → packet_in (length l) r ≡ Ok (Packet.Data d)
           → (heard_bare k m l ≡ brings (offer_found l d) l) × (length (name_of l) ≤ most_name)
       go (bare.refused b) q w = absurd (let z : ◌≡◌ {A = ℕ} 0 1 = cc in omega arith)
       go (bare.asks f) q w = absurd (let z : ◌≡◌ {A = ℕ} 0 1 = cc in omega arith)
@@ -110,12 +109,12 @@ module _ (k : Nacked) (m : Bool) (l : List ℕ) (p : Packet) (said : p ≡ packe
           )
 
   -- a Nack
-  pub nacks_found : (reason : ℕ) (i : Interest) → p ≡ Packet.Nack reason i
+  pub nacks_found : (reason : ℕ) (i : Interest) → p ≡ Ok (Packet.Nack reason i)
       → (heard_bare k m l ≡ nacks reason (ask_found l i)) × (length (name_of l) ≤ most_name)
   unfolding packet_in meant
   nacks_found reason i e = go (bare_read k m l) refl (sym said ∙ e)
     where
-      go : (r : Reading) → bare_read k m l ≡ r → packet_in (length l) r ≡ Packet.Nack reason i
+      go : (r : Reading) → bare_read k m l ≡ r → packet_in (length l) r ≡ Ok (Packet.Nack reason i)
           → (heard_bare k m l ≡ nacks reason (ask_found l i)) × (length (name_of l) ≤ most_name)
       go (bare.refused b) q w = absurd (let z : ◌≡◌ {A = ℕ} 0 1 = cc in omega arith)
       go (bare.asks f) q w = absurd (let z : ◌≡◌ {A = ℕ} 0 1 = cc in omega arith)

@@ -13,7 +13,8 @@ use Rattle.rules.specs.Node.{Node, empty_node, Event}
 use Rattle.rules.specs.Outcome.{Outcome, quiet}
 use Rattle.rules.specs.Packed.{packed, packed_from}
 use Rattle.rules.specs.Step.{bad_time, step, run, history, paper_step}
-use Rattle.event.specs.Memory.{Memory, node_of}
+use Rattle.event.specs.declared.Memory.{Memory}
+use Rattle.event.specs.Memory.{node_of}
 use Rattle.event.specs.Comes.{Comes}
 use Rattle.history.specs.Lists.{All, nothing, both, one, how_many, Pairs}
 use Rattle.history.specs.Lists as lists
@@ -147,7 +148,7 @@ rows_balance f hs m a =
 -- ANY CALLS, FROM CLEARED TABLES, SHOW WHAT DEMAND 3 ASKS
 pub carried : (m : Memory) (cs : List Call) (m' : Memory) → Cleared m → Calls m cs m' → Carried cs m'
 carried m cs m' cleared made =
-    let e : node_of m ≡ empty_node most_faces = cleared.kept m cleared.small in
+    let e : node_of m ≡ empty_node most_faces = ap node_of cleared.left ∙ cleared.kept in
     let y = rw e at (carry m cs m' (rw e (empty_shaped most_faces)) made) in
     record {
       events = y.0;

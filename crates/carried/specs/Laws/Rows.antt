@@ -19,7 +19,7 @@ use Rattle.records.specs.Ageing.{expiries, aged_pending}
 use Rattle.records.specs.Closing.{closing_ends}
 use Rattle.records.specs.Laws.Each.{only_length}
 use Rattle.happenings.specs.Noted.{most_rows}
-use Rattle.pending_table.specs.Places.View.{view_wide, view_most}
+use Rattle.pending_table.specs.Places.View.{view_few, view_faces}
 use Rattle.pending_pass.specs.Ages.{aged_rows}
 use Rattle.pending_pass.specs.Satisfies.{ends_by}
 use Rattle.pending_pass.specs.Laws.Asked.{rows_few, opening_room, data_room, closing_room, entry_room}
@@ -31,7 +31,8 @@ use Rattle.rules.specs.Data.{fate_of, data_ends, satisfies}
 use Rattle.rules.specs.Nack.{peers_of, ends_by_nack}
 use Rattle.rules.specs.Command.{close_step}
 use Rattle.rules.specs.Step.{after_ageing, paper_step}
-use Rattle.event.specs.Memory.{Memory, node_of}
+use Rattle.event.specs.declared.Memory.{Memory}
+use Rattle.event.specs.Memory.{node_of}
 use Rattle.history.specs.Laws.Becomes.{Past, Becomes, arrival, brought, ignored, taken, becomes}
 use Rattle.history.specs.Laws.Becomes as case
 
@@ -110,5 +111,5 @@ becomes_rows e n wide few o (taken p t f b) =
 pub step_rows : (m : Memory) (e : Event) → length (paper_step e (node_of m)).happenings ≤ most_rows
 unfolding node_of
 step_rows m e =
-    becomes_rows e (node_of m) (λ i x p. (view_wide most_faces _ _ _ _ _ i x p).0)
-    (view_most most_faces m.names m.heads m.recs m.numbers m.small.pending) _ (becomes most_faces least_buffer e (node_of m))
+    becomes_rows e (node_of m) (λ i x p. (view_faces m.pending i x p).0)
+    (view_few m.pending) _ (becomes most_faces least_buffer e (node_of m))

@@ -11,9 +11,9 @@ use Rattle.rules.specs.Node.{Node}
 use Rattle.rules.specs.Outcome.{Send, Outcome, quiet}
 use Rattle.rules.specs.Packed.{packed, packed_from}
 use Rattle.sending.specs.Rows.{Packs}
-use Rattle.event.specs.declared.Small.{Small}
 use Rattle.event.specs.declared.Came.{Came}
-use Rattle.event.specs.Memory.{Table, Memory, Output, node_of}
+use Rattle.event.specs.declared.Memory.{Memory}
+use Rattle.event.specs.Memory.{Table, Output, node_of}
 use Rattle.event.specs.Laws.Same.{Same}
 use Rattle.coming.specs.Goes.{Goes, After}
 
@@ -26,36 +26,8 @@ pub goes_at : (k : ℕ) (x : Outcome) (r : Came) (n m : Node) (o o' : Output) �
 goes_at k x r n m o o' e h = rw e h
 
 -- a result that is told by an equation
-pub goes_is : (k : ℕ) (x : Outcome) (r v : Came) (p g c n h : Table) (e : List Table) (m : List ℕ) (q u l : Table) (o o' : Output) → r ≡ v
-    → Goes k x v
-    (node_of (record {
-      small = v.small;
-      prefixes = p;
-      settings = g;
-      costs = c;
-      names = n;
-      heads = h;
-      recs = e;
-      numbers = m;
-      packets = q;
-      uses = u;
-      lines = l;
-    })) o o'
-    → Goes k x r
-    (node_of (record {
-      small = r.small;
-      prefixes = p;
-      settings = g;
-      costs = c;
-      names = n;
-      heads = h;
-      recs = e;
-      numbers = m;
-      packets = q;
-      uses = u;
-      lines = l;
-    })) o o'
-goes_is k x r v p g c n h e m q u l o o' i a = rw i a
+pub goes_is : (k : ℕ) (x : Outcome) (r v : Came) (n : Node) (o o' : Output) → r ≡ v → Goes k x v n o o' → Goes k x r n o o'
+goes_is k x r v n o o' i a = rw i a
 
 -- an answer alone: nothing is sent, and nothing more is noted
 pub goes_quiet : (k : ℕ) (a : Answer) (r : Came) (n : Node) (o : Output) → r.answer ≡ a → r.sent ≡ 0 → r.made ≡ k
@@ -85,12 +57,12 @@ goes_packed k x r n ss ss' b b' rs rs' ea en p q = record {
 }
 
 -- an outcome of which only something is sent
-pub goes_sends : (k : ℕ) (a : Answer) (n n' : Node) (ss : List Send) (s : Small) (t : ℕ) (rows rows' : Table) (b b' : List ℕ) (hs : Table)
+pub goes_sends : (k : ℕ) (a : Answer) (n n' : Node) (ss : List Send) (t : ℕ) (rows rows' : Table) (b b' : List ℕ) (hs : Table)
     → n ≡ n' → Packs ss t rows rows' b b'
-    → Goes k (record { answer = a; node = n'; sends = ss; happenings = [] }) (record { answer = a; small = s; sent = t; made = k }) n
+    → Goes k (record { answer = a; node = n'; sends = ss; happenings = [] }) (record { answer = a; sent = t; made = k }) n
     (record { sends = rows; buffer = b; rows = hs }) (record { sends = rows'; buffer = b'; rows = hs })
-goes_sends k a n n' ss s t rows rows' b b' hs e p =
-    goes_packed k (record { answer = a; node = n'; sends = ss; happenings = [] }) (record { answer = a; small = s; sent = t; made = k }) n
+goes_sends k a n n' ss t rows rows' b b' hs e p =
+    goes_packed k (record { answer = a; node = n'; sends = ss; happenings = [] }) (record { answer = a; sent = t; made = k }) n
     rows rows' b b' hs hs refl e p (notes_none most_rows k hs)
 
 -- an outcome past ageing is given by code in one way

@@ -88,14 +88,12 @@ module _ (n : Node) (x : Outcome) (room packet name : ℕ) where
       pick_no _ _ _ (le-ltb _ _ a) ∙ pick_no _ _ _ (le-ltb _ _ b) ∙ pick_no _ _ _ (le-ltb _ _ c) ∙ pick_no _ _ _ (le-ltb _ _ d)
 
 -- where the guard has nothing against a packet and its name, the code past it may rely on their sizes
-pub guard_holds : (t room : ℕ) (bare name : List ℕ) → name ≡ name_of bare → (y : Answer) (w : ℕ)
-    → y ≡ guard_says t room (length bare) (length name) → w ≡ number_of y → w ≡ 0 → Guarded t room bare name
-guard_holds t room bare name own y w ey ew z =
-    let d : number_of y ≡ 0 = sym ew ∙ z in
-    record {
-      timely = guard_time t room (length bare) (length name) y ey d;
-      roomy = guard_room t room (length bare) (length name) y ey d;
-      small = guard_packet t room (length bare) (length name) y ey d;
-      short = guard_name t room (length bare) (length name) y ey d;
-      own = own;
-    }
+pub guard_holds : (t room : ℕ) (bare name : List ℕ) → name ≡ name_of bare → (y : Answer)
+    → y ≡ guard_says t room (length bare) (length name) → number_of y ≡ 0 → Guarded t room bare name
+guard_holds t room bare name own y e d = record {
+  timely = guard_time t room (length bare) (length name) y e d;
+  roomy = guard_room t room (length bare) (length name) y e d;
+  small = guard_packet t room (length bare) (length name) y e d;
+  short = guard_name t room (length bare) (length name) y e d;
+  own = own;
+}

@@ -1,20 +1,21 @@
 -- What came in, by what the readers found: the Interest and the Data that the rules are told of.
 -- Assumes nothing.
-use Rattle.std.specs.Prelude.{ℕ, min, List}
+use Rattle.std.specs.declared.option.Option as code
+use Rattle.std.specs.Prelude.{ℕ, min, List, Some, None}
 use Rattle.std.proofs.Math.Option.{Option, none, some}
 use Rattle.sizes.specs.Sizes.{most_lifetime, most_freshness}
 use Rattle.packethead.specs.Name.{name_of}
 use Rattle.packets.specs.Meaning.{Ask, Offer}
-use Rattle.packets.specs.declared.bare.Hop.{Hop}
+use Rattle.packets.specs.declared.bare.HopLimit.{HopLimit}
 use Rattle.packets.specs.declared.bare.Interest.{Interest}
 use Rattle.packets.specs.declared.bare.Data.{Data}
 use Rattle.packets.specs.Places.View.{lowered}
 use Rattle.rules.specs.Interest.{Arrival}
 
 -- the HopLimit that was found, or none
-unfoldable pub limit_of : Hop → Option ℕ
-limit_of Hop.Absent = none
-limit_of (Hop.Limit n at) = some n
+unfoldable pub limit_of : code.Option HopLimit → Option ℕ
+limit_of None = none
+limit_of (Some h) = some h.limit
 
 -- an Interest as it was found in a bare packet, of a name: a lifetime above 60,000 counts as that
 abbrev pub ask_named : List ℕ → Interest → Ask

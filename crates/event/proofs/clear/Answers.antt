@@ -1,9 +1,8 @@
--- Each table's empty state has nothing, whatever the memory holds.
+-- Each table is cleared, whatever its rows hold.
 use mathlib.Core.Path.{refl}
 use Rattle.event.specs.Laws.Begins.{clear_node}
 use Rattle.event.proofs.clear.Goals as goal
 
 pub returns : goal.returns
 returns c =
-    clear_node _ refl c.none-faces.ensures c.empty-routes.ensures.no_routes
-    c.empty-pending.ensures c.empty-store.ensures.no_data c.empty-ring.ensures.no_lines
+    clear_node _ refl c.none-m.ensures c.clear.ensures.no_routes c.clear-2.ensures c.clear-3.ensures.no_data c.clear-4.ensures.no_lines

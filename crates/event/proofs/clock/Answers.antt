@@ -1,7 +1,14 @@
 -- The clock only begins.
 use Rattle.event.specs.Laws.Begun.{clock_begins}
-use Rattle.event.specs.Laws.Comes.{comes_by}
+use Rattle.event.specs.Laws.Comes.{comes_by, comes_is}
+use Rattle.event.specs.Places.Begins.{began}
 use Rattle.event.proofs.clock.Goals as goal
 
-pub returns : goal.returns
-returns c = comes_by _ _ _ _ _ _ _ (clock_begins _ _ _ _ _) c.begins.ensures
+pub returns-in-Ok : goal.returns-in-Ok
+unfolding began
+returns-in-Ok c = comes_by _ _ _ _ _ _ _ (clock_begins _ _ _ _ _) (comes_is _ _ _ _ _ _ _ c.quiet.ensures c.in-Ok.ensures.begun)
+
+pub returns-in-Err : goal.returns-in-Err
+unfolding began
+returns-in-Err c =
+    comes_by _ _ _ _ _ _ _ (clock_begins _ _ _ _ _) (comes_is _ _ _ _ _ _ _ c.quiet-in-Err.ensures c.in-Err.ensures.begun)

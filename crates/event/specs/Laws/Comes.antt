@@ -23,7 +23,7 @@ use Rattle.rules.specs.Packed.{packed, packed_from}
 use Rattle.rules.specs.Ageing.{aged, ageing}
 use Rattle.rules.specs.Step.{what_step, bad_face, after_ageing, step}
 use Rattle.event.specs.declared.Came.{Came}
-use Rattle.event.specs.Memory.{Table, Output, node_of}
+use Rattle.event.specs.Memory.{Table, Output}
 use Rattle.event.specs.Begun.{begun}
 use Rattle.event.specs.Comes.{Comes}
 use Rattle.event.specs.Laws.Begun.{Begins, begins_by, begun_face}
@@ -33,36 +33,8 @@ pub comes_by : (k : ℕ) (x y : Outcome) (r : Came) (n : Node) (o o' : Output) �
 comes_by k x y r n o o' e h = rw e h
 
 -- a result that is told by an equation
-pub comes_is : (k : ℕ) (x : Outcome) (r v : Came) (p g c n h : Table) (e : List Table) (m : List ℕ) (q u l : Table) (o o' : Output) → r ≡ v
-    → Comes k x v
-    (node_of (record {
-      small = v.small;
-      prefixes = p;
-      settings = g;
-      costs = c;
-      names = n;
-      heads = h;
-      recs = e;
-      numbers = m;
-      packets = q;
-      uses = u;
-      lines = l;
-    })) o o'
-    → Comes k x r
-    (node_of (record {
-      small = r.small;
-      prefixes = p;
-      settings = g;
-      costs = c;
-      names = n;
-      heads = h;
-      recs = e;
-      numbers = m;
-      packets = q;
-      uses = u;
-      lines = l;
-    })) o o'
-comes_is k x r v p g c n h e m q u l o o' i a = rw i a
+pub comes_is : (k : ℕ) (x : Outcome) (r v : Came) (n : Node) (o o' : Output) → r ≡ v → Comes k x v n o o' → Comes k x r n o o'
+comes_is k x r v n o o' i a = rw i a
 
 -- an answer alone, with a node: nothing is sent, and nothing more is noted
 pub comes_quiet : (k : ℕ) (a : Answer) (r : Came) (n : Node) (o : Output) → r.answer ≡ a → r.sent ≡ 0 → r.made ≡ k

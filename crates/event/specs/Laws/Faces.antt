@@ -11,7 +11,8 @@ use Rattle.faces.specs.Set.{has_face}
 use Rattle.faces.specs.Laws.View.{open_is}
 use Rattle.rules.specs.Node.{What, face_in, opens_face}
 use Rattle.rules.specs.Step.{bad_face}
-use Rattle.event.specs.Memory.{Memory, node_of}
+use Rattle.event.specs.declared.Memory.{Memory}
+use Rattle.event.specs.Memory.{node_of}
 
 -- a test that holds changes nothing
 and_true : (a : Bool) → a && true ≡ a
@@ -26,7 +27,7 @@ and_again false b = refl
 -- in any memory an open face is a face
 open_face_lem : (m : Memory) (f : ℕ) → is_face most_faces f && is_open (node_of m).faces f ≡ is_open (node_of m).faces f
 unfolding node_of has_face
-open_face_lem m f = rw (open_is most_faces f m.small.faces) (and_again (is_face most_faces f) _)
+open_face_lem m f = rw (open_is most_faces f m.faces) (and_again (is_face most_faces f) _)
 
 module _ (m : Memory) (w : What) where
   -- an event that names no face is not refused by check 3

@@ -20,7 +20,7 @@ use Rattle.records.specs.Rows.{row_of}
 use Rattle.records.specs.Ageing.{expiries, aged_pending}
 use Rattle.records.specs.Closing.{closing_ends}
 use Rattle.happenings.specs.Noted.{most_rows, Notes}
-use Rattle.pending_table.specs.Places.View.{view_wide, view_most}
+use Rattle.pending_table.specs.Places.View.{view_few, view_faces}
 use Rattle.pending_pass.specs.Ages.{aged_rows}
 use Rattle.pending_pass.specs.Asked.{asked}
 use Rattle.pending_pass.specs.Satisfies.{ends_by}
@@ -31,7 +31,8 @@ use Rattle.rules.specs.Packed.{packed, packed_from}
 use Rattle.rules.specs.Ageing.{aged, ageing}
 use Rattle.rules.specs.Step.{after_ageing}
 use Rattle.event.specs.declared.Came.{Came}
-use Rattle.event.specs.Memory.{Table, Memory, Output, node_of}
+use Rattle.event.specs.declared.Memory.{Memory}
+use Rattle.event.specs.Memory.{Table, Output, node_of}
 use Rattle.sending.specs.Rows.{send_row}
 use Rattle.event.specs.Begun.{begun}
 use Rattle.event.specs.Comes.{Comes, Begun}
@@ -57,12 +58,12 @@ module _ (m : Memory) where
   -- in any memory an entry has a slot for each face
   entries_wide : (i : ℕ) (e : Entry) → at_place i (node_of m).pending ≡ some e → length e.requests ≡ most_faces
   unfolding node_of
-  entries_wide i e p = (view_wide most_faces _ _ _ _ _ i e p).0
+  entries_wide i e p = (view_faces m.pending i e p).0
 
   -- and there are no more entries than the table has rows
   entries_few : length (node_of m).pending ≤ most_entries
   unfolding node_of
-  entries_few = view_most most_faces m.names m.heads m.recs m.numbers m.small.pending
+  entries_few = view_few m.pending
 
   -- of any memory: past ageing there is a row for the end of every request that is left, and one for an opening
   pub rows_left : (now : ℕ) → length (ageing now (node_of m)) + asked (aged now (node_of m)).pending + 1 ≤ most_rows

@@ -7,7 +7,8 @@ use denote.Triple.Both.{Both}
 use Rattle.rules.specs.Node.{Node, What}
 use Rattle.rules.specs.Outcome.{Outcome}
 use Rattle.event.specs.declared.Came.{Came}
-use Rattle.event.specs.Memory.{Memory, Output, node_of}
+use Rattle.event.specs.declared.Memory.{Memory}
+use Rattle.event.specs.Memory.{Output, node_of}
 use Rattle.event.specs.Comes.{Comes, Stepped, Begun}
 
 -- what two outcomes that a contract admits have in common: everything that it speaks of

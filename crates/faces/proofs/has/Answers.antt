@@ -1,23 +1,22 @@
 -- A number that is no face is in no set; of a face the shift gives the digit.
-use native.Mathlib.Omega.{arith}
-use Prim.Native.Nat.{◌-◌}
-use Rattle.records.specs.Laws.Face.{face_yes, face_no}
+use Rattle.std.proofs.Common.{arith, sym, ◌∙◌, ◌-◌}
+use Rattle.records.specs.Laws.Face.{face_yes}
 use Rattle.sizes.specs.Sizes.{most_faces}
 use Rattle.faces.specs.Set.{has_face}
 use Rattle.laws.specs.Digits.{member}
 use Rattle.laws.specs.Laws.Digits.{digit_shift}
 use Rattle.faces.proofs.has.Goals as goal
 
-pub returns-then-face-eq0 : goal.returns-then-face-eq0
-unfolding has_face
-returns-then-face-eq0 c = rw ((face_no most_faces c.args.face).1 (λ h. omega arith))
+pub overflow_sub-result : goal.overflow_sub-result
+overflow_sub-result c = ((face_yes most_faces c.args.face).0 (sym c.is_face.ensures ∙ c.if-is_face.true)).0
 
-pub returns-then-face-gt-FACES : goal.returns-then-face-gt-FACES
-unfolding has_face
-returns-then-face-gt-FACES c = rw ((face_no most_faces c.args.face).1 (λ h. omega arith))
+pub overflow_shr-result : goal.overflow_shr-result
+overflow_shr-result c = omega (arith, (face_yes most_faces c.args.face).0 (sym c.is_face.ensures ∙ c.if-is_face.true))
 
-pub returns : goal.returns
+pub returns-then-is_face : goal.returns-then-is_face
 unfolding has_face member
-returns c =
-    let f = c.args.face in
-    rw ((face_yes most_faces f).1 (omega arith, omega arith), ← (digit_shift (f - 1) _))
+returns-then-is_face c = rw (sym c.is_face.ensures ∙ c.if-is_face.true, ← (digit_shift (c.args.face - 1) _))
+
+pub returns-else-is_face : goal.returns-else-is_face
+unfolding has_face
+returns-else-is_face c = rw (← c.is_face.ensures, c.if-is_face.false)

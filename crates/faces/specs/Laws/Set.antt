@@ -8,7 +8,8 @@ use Rattle.std.proofs.Common.{◌∙◌, ⊎_elim, mod-lt, add-zero, eq-or-lt_of
 use Rattle.std.proofs.Math.Bool.{true, false, not}
 use native.Mathlib.Omega.{arith}
 use Rattle.std.specs.Int.Count.{count_trailing_zeros}
-use Rattle.std.specs.Int.Bits.{bit_and, bit_xor}
+use Rattle.std.specs.Int.Bits.{bit_and, bit_xor, and_self, xor_add_and}
+use Rattle.std.proofs.lemmas.Nat.{and-not, and_assoc, and_comm}
 use Rattle.laws.specs.Pick.{pick}
 use Rattle.laws.specs.Laws.Pick.{pick_yes, pick_ind}
 use Rattle.laws.specs.Laws.Loop.{and_both}
@@ -191,6 +192,14 @@ module _ (n : ℕ) where
   where_mod s =
       sym (where_is (s % 2 ^ n) (has_face n s) (mod-lt s (pow_pos n))
       (λ f h. rw (digit_mod (f - 1) n s (omega (arith, (face_yes n f).0 h)))))
+
+-- at 64 bits the machine's `and` with what is not in a set is its `xor` with what is in both
+pub and_not_is : (a b : ℕ) → a < 2 ^ 64 → b < 2 ^ 64 → bit_and a (2 ^ 64 - 1 - b) ≡ bit_xor a (bit_and a b)
+and_not_is a b h l =
+    let c = bit_and a b in
+    let i : bit_and a c ≡ c = sym (and_assoc b a a) ∙ rw (and_self a) in
+    let n : bit_and a (2 ^ 64 - 1 - b) + c ≡ a = rw (and_comm (2 ^ 64 - 1 - b) a, and_comm b a) at (and-not 64 b a l h) in
+    omega (arith, xor_add_and a c, i, n)
 
 module _ (n a b f : ℕ) where
   -- a face is in the machine's `and` of two sets exactly where it is in both

@@ -1,47 +1,19 @@
 -- Refused where it begins; else what is read.
-use mathlib.Core.Path.{sym, ◌∙◌}
-use Rattle.event.specs.Memory.{Memory, node_of}
-use Rattle.event.specs.Laws.Comes.{step_refused, step_on}
+use mathlib.Core.Path.{refl}
+use Rattle.event.specs.Memory.{node_of}
+use Rattle.event.specs.Places.Begins.{began}
+use Rattle.event.specs.Laws.Comes.{comes_is, step_refused, step_on}
 use Rattle.forwarder.specs.Laws.Packet.{packet_bad, packet_comes}
 use Rattle.forwarder.proofs.packet.Goals as goal
 
-pub returns-then-number-ne0 : goal.returns-then-number-ne0
-unfolding node_of
-returns-then-number-ne0 c =
-    let a = c.args in
-    let m : Memory = record {
-      small = a.small;
-      prefixes = a.prefixes.now;
-      settings = a.settings.now;
-      costs = a.costs.now;
-      names = a.names.now;
-      heads = a.heads.now;
-      recs = a.recs.now;
-      numbers = a.numbers.now;
-      packets = a.packets.now;
-      uses = a.uses.now;
-      lines = a.lines.now;
-    } in
-    step_refused _ _ _ _ _ (node_of m) _ _ _ _ (packet_bad m _ _ _ c.is_not_open-bad.ensures) c.begins-begun.ensures
-    (λ e. c.if-number-ne0.true (c.number.ensures ∙ e))
+pub returns-in-Err : goal.returns-in-Err
+unfolding began node_of
+returns-in-Err c =
+    comes_is _ _ _ _ _ _ _ c.quiet.ensures
+    (step_refused _ _ _ _ _ _ _ _ _ _ (packet_bad _ _ _ _ c.is_not_open-bad.ensures) c.in-Err.ensures.begun c.in-Err.ensures.refused)
 
-pub returns : goal.returns
-unfolding node_of
-returns c =
-    let zero = sym c.number.ensures ∙ c.if-number-ne0.false in
-    let a = c.args in
-    let m : Memory = record {
-      small = a.small;
-      prefixes = a.prefixes.now;
-      settings = a.settings.now;
-      costs = a.costs.now;
-      names = a.names.now;
-      heads = a.heads.now;
-      recs = a.recs.now;
-      numbers = a.numbers.now;
-      packets = a.packets.now;
-      uses = a.uses.now;
-      lines = a.lines.now;
-    } in
-    step_on _ _ _ _ _ (node_of m) _ _ _ _ (packet_bad m _ _ _ c.is_not_open-bad.ensures) c.begins-begun.ensures _ _ _ zero
-    (λ _. packet_comes _ _ _ _ _ _ _ c.begins-begun.ensures zero _ _ _ c.read.ensures)
+pub returns-in-Ok : goal.returns-in-Ok
+unfolding began node_of
+returns-in-Ok c =
+    step_on _ _ _ _ _ _ _ _ _ _ (packet_bad _ _ _ _ c.is_not_open-bad.ensures) c.in-Ok.ensures.begun _ _ _ refl
+    (λ _. packet_comes _ _ _ _ _ _ _ c.in-Ok.ensures.begun refl _ _ _ c.read.ensures)

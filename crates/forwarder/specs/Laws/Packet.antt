@@ -1,6 +1,6 @@
 -- A packet past ageing: its header is refused, or what stands in it comes in.
 -- Assumes nothing.
-use Rattle.std.specs.Prelude.{ℕ, ◌+◌, ◌-◌, ◌^◌, ◌≤◌, ◌<◌, Bool, not, List, take, drop}
+use Rattle.std.specs.Prelude.{ℕ, ◌+◌, ◌-◌, ◌^◌, ◌≤◌, ◌<◌, Bool, not, List, take, drop, Err, Ok, Result}
 use Rattle.std.proofs.Math.Path.{◌≡◌, refl, ap}
 use Rattle.std.proofs.Common.{sym, ◌∙◌, arith, zero-add}
 use denote.Triple.Both.{Both}
@@ -9,7 +9,6 @@ use Rattle.answers.specs.declared.Answer.{Answer}
 use Rattle.answers.specs.Number.{number_of}
 use Rattle.sizes.specs.Sizes.{most_faces}
 use Rattle.records.specs.Face.{is_open}
-use Rattle.packethead.specs.declared.header.Header.{Header}
 use Rattle.packethead.specs.declared.header.Part.{Part}
 use Rattle.packethead.specs.Header.{Came, header_read}
 use Rattle.packethead.specs.Header as header
@@ -19,7 +18,8 @@ use Rattle.packets.specs.Laws.Shape.{bare_in, bare_short, heard_is}
 use Rattle.rules.specs.Node.{Node, packet, face_in, opens_face}
 use Rattle.rules.specs.Step.{arrives, what_step, bad_face}
 use Rattle.event.specs.declared.Came as event
-use Rattle.event.specs.Memory.{Memory, Output, node_of}
+use Rattle.event.specs.declared.Memory.{Memory}
+use Rattle.event.specs.Memory.{Output, node_of}
 use Rattle.event.specs.Comes.{Comes, Begun}
 use Rattle.event.specs.Laws.Faces.{bad_named}
 use Rattle.event.specs.Laws.Rows.{comes_noted, begun_now, begun_in_time, begun_long, begun_opening, begun_data, begun_entry}
@@ -36,14 +36,14 @@ pub packet_bad : (m : Memory) (f : ℕ) (l : List ℕ) (b : Bool) → b ≡ not 
 unfolding face_in opens_face
 packet_bad m f l b e = e ∙ sym (bad_named m (packet f l) f refl refl)
 
-module _ (l : List ℕ) (h : Header) (said : h ≡ header_in (length l) (header_read l)) where
+module _ (l : List ℕ) (h : Result Part Answer) (said : h ≡ header_in (length l) (header_read l)) where
   -- a header that is refused
-  pub read_refused : (a : Answer) → h ≡ Header.Refused a → (k room f : ℕ) (r : event.Came) (n : Node) (o : Output)
+  pub read_refused : (a : Answer) → h ≡ Err a → (k room f : ℕ) (r : event.Came) (n : Node) (o : Output)
       → r.answer ≡ a → r.sent ≡ 0 → r.made ≡ k → Goes k (read_in room f l n) r n o o
   unfolding header_in header_from read_in read_by
   read_refused a e k room f r n o ea es em = go (header_read l) (sym said ∙ e)
     where
-      go : (c : Came) → header_in (length l) c ≡ Header.Refused a → Goes k (read_by room f n c) r n o o
+      go : (c : Came) → header_in (length l) c ≡ Err a → Goes k (read_by room f n c) r n o o
       go (header.refused b) w = let q : b ≡ a = cc in rw q (goes_quiet k a r n o ea es em)
       go (header.bare b) w = absurd (let z : ◌≡◌ {A = ℕ} 0 1 = cc in omega arith)
 
@@ -55,11 +55,11 @@ module _ (l : List ℕ) (h : Header) (said : h ≡ header_in (length l) (header_
         → read_in room f l n ≡ comes_in room p.nack p.marked (take p.len (drop p.from l)) f n
 
   -- what the header holds
-  pub read_found : (p : Part) → h ≡ Header.Bare p → Found p
+  pub read_found : (p : Part) → h ≡ Ok p → Found p
   unfolding header_in header_from read_in read_by
   read_found p e = go (header_read l) refl (sym said ∙ e)
     where
-      go : (c : Came) → header_read l ≡ c → header_in (length l) c ≡ Header.Bare p → Found p
+      go : (c : Came) → header_read l ≡ c → header_in (length l) c ≡ Ok p → Found p
       go (header.refused b) q w = absurd (let z : ◌≡◌ {A = ℕ} 0 1 = cc in omega arith)
       go (header.bare b) q w =
           let x = bare_in l q in
@@ -77,7 +77,7 @@ module _ (l : List ℕ) (h : Header) (said : h ≡ header_in (length l) (header_
           })
 
   -- so it comes in
-  pub read_comes : (p : Part) → h ≡ Header.Bare p → (k room f : ℕ) (r : event.Came) (n n' : Node) (o o' : Output)
+  pub read_comes : (p : Part) → h ≡ Ok p → (k room f : ℕ) (r : event.Came) (n n' : Node) (o o' : Output)
       → Goes k (comes_in room p.nack p.marked (take p.len (drop p.from l)) f n) r n' o o' → Goes k (read_in room f l n) r n' o o'
   read_comes p e k room f r n n' o o' g = goes_by k _ _ r n' o o' ((read_found p e).means room f n) g
 

@@ -6,11 +6,11 @@ use Rattle.grammar.specs.declared.Row.{Row}
 use Rattle.wire.specs.Verdict.{is_malformed}
 use Rattle.grammar.specs.Types as types
 use Rattle.grammar.specs.Orders as order
-use Rattle.grammar.specs.Table.{whole, outer, table, row_of}
+use Rattle.grammar.specs.Table.{outer, table, row_of}
 
--- the facts of a row: its type is 1 to 2^32-1, its rule is one of the five, and it says that a packet is fine or unsupported
+-- the facts of a row: its type is 1 to 2^32-1, and it says that a packet is fine or unsupported
 unfoldable pub sound : Row → Bool
-sound r = leb 1 r.typ && leb r.typ 4294967295 && leb r.rule whole && not (is_malformed r.says)
+sound r = leb 1 r.typ && leb r.typ 4294967295 && not (is_malformed r.says)
 
 -- orders run 1, 2, 3 .. within a parent, whose rows stand together: p and o are parent and order of the row before
 unfoldable pub ordered : ℕ → ℕ → List Row → Bool

@@ -2,11 +2,12 @@
 -- and with a length that fits; so a field of a walk has a length that fits the rule of its order.
 -- Assumes nothing.
 use Rattle.std.specs.Prelude.{ℕ, zero, suc, ◌≤◌, ◌<◌, ◌≡◌, refl, Bool, true, ◌&&◌, ◌≢◌, List, [], ◌∷◌, length, get_or, set, replicate, leb, eqb}
-use Rattle.std.proofs.Common.{eqb-true, eq-eqb, ne_eqb, leb-false, arith}
+use Rattle.std.proofs.Common.{sym, ◌∙◌, ap, eqb-true, eq-eqb, ne_eqb, leb-false, arith}
 use Rattle.laws.specs.Pick.{pick}
 use Rattle.laws.specs.Laws.Pick.{pick_ind}
 use Rattle.laws.specs.Laws.Loop.{and_both}
 use Rattle.grammar.specs.declared.Row.{Row}
+use Rattle.grammar.specs.declared.Rule.{Rule}
 use Rattle.wire.specs.declared.verdict.Verdict.{Verdict}
 use Rattle.wire.specs.Verdict.{is_malformed}
 use Rattle.grammar.specs.declared.Next.{Next}
@@ -77,17 +78,46 @@ walked_fits p l o =
     h)
     l no_fields (λ o _. none_fits p 11 o o) o)
 
+-- the number of a rule
+abbrev number_of : Rule → ℕ
+number_of Rule.Any = 0
+number_of Rule.Empty = 1
+number_of Rule.One = 2
+number_of Rule.Four = 3
+number_of Rule.Whole = 4
+
+-- the rule of a number
+rule_of : ℕ → Rule
+rule_of n = pick (eqb n 0) Rule.Any (pick (eqb n 1) Rule.Empty (pick (eqb n 2) Rule.One (pick (eqb n 3) Rule.Four Rule.Whole)))
+
+-- a rule is that of its number
+rule_back : (u : Rule) → rule_of (number_of u) ≡ u
+unfolding rule_of pick
+rule_back Rule.Any = refl
+rule_back Rule.Empty = refl
+rule_back Rule.One = refl
+rule_back Rule.Four = refl
+rule_back Rule.Whole = refl
+
+-- whether two rules are one
+abbrev same_rule : Rule → Rule → Bool
+same_rule a b = eqb (number_of a) (number_of b)
+
+-- two rules with one number are one
+same_rule_lem : (a b : Rule) → same_rule a b ≡ true → a ≡ b
+same_rule_lem a b e = sym (rule_back a) ∙ ap rule_of (eqb-true (number_of a) (number_of b) e) ∙ rule_back b
+
 -- whether a row of order o in parent p has the rule u
-unfoldable pub ruled : ℕ → ℕ → ℕ → Row → Bool
-ruled p o u r = pick (eqb r.order o && eqb r.parent p) (eqb r.rule u) true
+unfoldable pub ruled : ℕ → ℕ → Rule → Row → Bool
+ruled p o u r = pick (eqb r.order o && eqb r.parent p) (same_rule r.rule u) true
 
 -- where that is the rule of each such row, a value of that order has a length that fits it
-pub fitting_rule : (p o u : ℕ) (v : List ℕ) → each_row (ruled p o u) table ≡ true → 1 ≤ o → Fitting p o v → fits u (length v) ≡ true
+pub fitting_rule : (p o : ℕ) (u : Rule) (v : List ℕ) → each_row (ruled p o u) table ≡ true → 1 ≤ o → Fitting p o v → fits u (length v) ≡ true
 unfolding ruled pick
 fitting_rule p o u v each h f =
     let r : Row = row_of p f.typ table in
     let none-ruled : ruled p o u none ≡ true = rw (ne_eqb 0 o (λ z. omega arith)) in
     let q : ruled p o u r ≡ true = row_each (ruled p o u) p f.typ table none-ruled each in
     let b : r.parent ≡ p = (row_found p f.typ table (λ z. omega (arith, f.order))).0 in
-    let e : eqb r.rule u ≡ true = rw (eq-eqb r.order o f.order, eq-eqb r.parent p b) at q in
-    rw (eqb-true r.rule u e) at f.fit
+    let e : same_rule r.rule u ≡ true = rw (eq-eqb r.order o f.order, eq-eqb r.parent p b) at q in
+    rw (same_rule_lem r.rule u e) at f.fit

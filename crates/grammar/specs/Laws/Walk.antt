@@ -1,7 +1,7 @@
 -- Laws of the walk: the fields an element at a time, the places of the loop, and what holds of every walk: what it says and where each
 -- field stands in its parent.
 -- Assumes nothing.
-use Rattle.std.specs.Prelude.{ℕ, zero, suc, ◌+◌, ◌-◌, ◌^◌, ◌≤◌, ◌<◌, ◌≡◌, List, [], ◌∷◌, ◌++◌, map, take, drop, get_or, set, replicate, leb, eqb}
+use Rattle.std.specs.Prelude.{ℕ, zero, suc, ◌+◌, ◌-◌, ◌^◌, ◌≤◌, ◌<◌, ◌≡◌, List, [], ◌∷◌, ◌++◌, map, take, drop, get_or, set, replicate, leb, eqb, None, Some, Option, ◌↔◌}
 use Rattle.std.proofs.Math.Path.{refl, sym, ap}
 use Rattle.std.proofs.Common.{◌∙◌, drop-drop, ne_eqb}
 use Rattle.std.proofs.Math.ListN.{length, length-drop, get_or-map}
@@ -11,7 +11,6 @@ use Rattle.laws.specs.Pick.{pick}
 use Rattle.laws.specs.Laws.Pick.{pick_ind}
 use Rattle.wire.specs.declared.read.Cursor.{Cursor}
 use Rattle.wire.specs.declared.read.Element.{Element}
-use Rattle.wire.specs.declared.read.Read.{Read}
 use Rattle.wire.specs.Element.{elem, element, Split, more, stop, elements, ended}
 use Rattle.wire.specs.Places.Place.{element_at}
 use Rattle.wire.specs.Laws.Within.{Found, read_is, value_length, ElementWithin, element_within}
@@ -28,7 +27,7 @@ use Rattle.grammar.specs.declared.Next.{Next}
 use Rattle.grammar.specs.Table.{table, row_of, fits, other}
 use Rattle.grammar.specs.Laws.Table.{row_small}
 use Rattle.grammar.specs.Walk.{next, said_with, known, judged, Item, item, Field, absent, here, Fields, no_fields, broken_fields, met, met_all, walked_from, walked}
-use Rattle.grammar.specs.Places.Walk.{place_in, found_in}
+use Rattle.grammar.specs.Places.Walk.{place_in, spot_in, found_in}
 
 -- ---- a walk, an element at a time
 
@@ -73,25 +72,25 @@ map_set g (y ∷ l) (suc i) x = ap (λ m. g y ∷ m) (map_set g l i x)
 
 -- the value of an element that is read at a place stands where it is told
 found_placed : {s : List ℕ} {at : ℕ} {e : Element} {c : Cursor} → Found s at e c
-    → place_in (length s) (here (take e.len (drop e.at s)) (length (drop c.at s))) ≡ record { at = e.at; len = e.len }
-unfolding place_in
+    → spot_in (length s) (here (take e.len (drop e.at s)) (length (drop c.at s))) ≡ Some (record { at = e.at; len = e.len })
+unfolding spot_in place_in
 found_placed {s} {at} {e} {c} h =
     let a : length s - length (drop c.at s) - e.len ≡ e.at = omega (arith, length-drop c.at s) in rw (value_length h, a)
 
 -- the loop at place at of s: the fields f are met, whose places are the loop's, and what they and the bytes left say is what all say
-pub record Walking (p : ℕ) (s : List ℕ) (at : ℕ) (said : Verdict) (last : ℕ) (places : List Place) : Type 0 where
+pub record Walking (p : ℕ) (s : List ℕ) (at : ℕ) (said : Verdict) (last : ℕ) (places : List (Option Place)) : Type 0 where
   pub f : Fields
   pub said_is : said ≡ f.said
   pub last_is : last ≡ f.last
-  pub places_are : places ≡ map (place_in (length s)) f.vals
+  pub places_are : places ≡ map (spot_in (length s)) f.vals
   pub same : walked_from p f (elements item (drop at s)) ≡ walked p s
 
 -- the loop starts with no field
-pub walking_start : (p : ℕ) (s : List ℕ) → Walking p s 0 Verdict.Fine 0 (replicate 11 (record { at = 0; len = 0 }))
-unfolding no_fields place_in
+pub walking_start : (p : ℕ) (s : List ℕ) → Walking p s 0 Verdict.Fine 0 (replicate 11 None)
+unfolding no_fields spot_in
 walking_start p s = record { f = no_fields; said_is = refl; last_is = refl; places_are = refl; same = walked_from_lem p s }
 
-module _ {p : ℕ} {s : List ℕ} {at : ℕ} {said : Verdict} {last : ℕ} {places : List Place} (w : Walking p s at said last places) where
+module _ {p : ℕ} {s : List ℕ} {at : ℕ} {said : Verdict} {last : ℕ} {places : List (Option Place)} (w : Walking p s at said last places) where
   -- at the end of s the loop has what the walk says
   pub walking_end : length s ≤ at → record { said = said; last = last; places = places } ≡ found_in (length s) (walked p s)
   unfolding found_in
@@ -100,29 +99,29 @@ module _ {p : ℕ} {s : List ℕ} {at : ℕ} {said : Verdict} {last : ℕ} {plac
       rw (w.said_is, w.last_is, w.places_are, e)
 
   -- at a fault the walk says 5, with no field
-  pub walking_bad : at < length s → element_at s at ≡ Read.Bad
-      → record { said = Verdict.Malformed; last = 0; places = replicate 11 (record { at = 0; len = 0 }) } ≡ found_in (length s) (walked p s)
-  unfolding found_in broken_fields place_in
+  pub walking_bad : at < length s → element_at s at ≡ None
+      → record { said = Verdict.Malformed; last = 0; places = replicate 11 None } ≡ found_in (length s) (walked p s)
+  unfolding found_in broken_fields spot_in
   walking_bad h b =
       let e : broken_fields ≡ walked p s =
       sym (walked_broken p w.f (drop at s) (omega (arith, length-drop at s))) ∙ ap (walked_from p w.f) (sym (walk_bad item s at b)) ∙ w.same in
       rw (← e)
 
   -- past an element, which v is next, the loop goes on with its field
-  pub walking_more : (e : Element) (c : Cursor) (v : Next) → element_at s at ≡ Read.Is e c → v ≡ judged p said last e.typ e.len
-      → Walking p s c.at v.said v.last (set places v.order (record { at = e.at; len = e.len }))
+  pub walking_more : (e : Element) (c : Cursor) (v : Next) → element_at s at ≡ Some (e, c) → v ≡ judged p said last e.typ e.len
+      → Walking p s c.at v.said v.last (set places v.order (Some (record { at = e.at; len = e.len })))
   unfolding met
   walking_more e c v i j =
       let h : Found s at e c = read_is s at e c i in
       let n : length (take e.len (drop e.at s)) ≡ e.len = value_length h in
       let k : Item = item e.typ (take e.len (drop e.at s)) (drop c.at s) in
       let d : v ≡ judged p w.f.said w.f.last e.typ (length (take e.len (drop e.at s))) = rw (n, ← w.said_is, ← w.last_is) j in
-      let q : place_in (length s) (here k.value k.left) ≡ record { at = e.at; len = e.len } = found_placed h in
+      let q : spot_in (length s) (here k.value k.left) ≡ Some (record { at = e.at; len = e.len }) = found_placed h in
       record {
         f = met p w.f k;
         said_is = ap (λ (x : Next). x.said) d;
         last_is = ap (λ (x : Next). x.last) d;
-        places_are = rw (map_set (place_in (length s)) w.f.vals _ (here k.value k.left), q, w.places_are, d);
+        places_are = rw (map_set (spot_in (length s)) w.f.vals _ (here k.value k.left), q, w.places_are, d);
         same = sym (walked_more p w.f k (elements item (drop c.at s))) ∙ ap (walked_from p w.f) (sym (walk_more item s at e c i)) ∙ w.same;
       }
 
@@ -227,9 +226,9 @@ walked_in p l o =
     (record { at = 0; left = refl; each = none_in l 11 })).each o)
 
 -- the place of each field, by its order
-pub place_of_lem : (n : ℕ) (f : Fields) (o : ℕ) → get_or (found_in n f).places o (record { at = 0; len = 0 }) ≡ place_in n (get_or f.vals o absent)
-unfolding found_in place_in
-place_of_lem n f o = get_or-map (place_in n) f.vals o absent
+pub place_of_lem : (n : ℕ) (f : Fields) (o : ℕ) → get_or (found_in n f).places o None ≡ spot_in n (get_or f.vals o absent)
+unfolding found_in spot_in
+place_of_lem n f o = get_or-map (spot_in n) f.vals o absent
 
 module _ {l : List ℕ} {x : Field} (h : FieldIn l x) where
   -- the bytes at a field's place are its value
@@ -267,3 +266,15 @@ module _ {l : List ℕ} {x : Field} (h : FieldIn l x) where
 pub place_absent : (n : ℕ) {x : Field} → x ≡ absent → (place_in n x).at ≡ 0
 unfolding place_in
 place_absent n e = rw e
+
+-- a field that is absent has no place, and one that has no place is absent
+pub spot_absent : (n : ℕ) (x : Field) → (x ≡ absent) ↔ (spot_in n x ≡ None)
+unfolding spot_in
+spot_absent n absent = (λ e. refl, λ e. refl)
+spot_absent n (here v k) = (λ e. cc, λ e. cc)
+
+-- a field that has a place is there, at that place
+pub spot_here : (n : ℕ) (x : Field) {q : Place} → spot_in n x ≡ Some q → q ≡ place_in n x
+unfolding spot_in
+spot_here n absent e = cc
+spot_here n (here v k) e = cc

@@ -1,22 +1,8 @@
--- `put_send_line` meets its contract: where `fits` says that there is room for the line, it is stored, and else nothing is stored.
-use mathlib.Core.Path.{sym, ◌∙◌}
-use native.Mathlib.Omega.{arith}
-use borrow.Author.Tests.{leb-true}
-use Rattle.lines.specs.Laws.Lines.{length_send}
-use Rattle.lines.specs.Laws.Put.{put_fits, put_full}
+-- A send's line is one of a word and numbers.
+use Rattle.lines.specs.Lines.{mark}
+use Rattle.lines.specs.Laws.Lines.{send_parts}
 use Rattle.lines.proofs.put_send_line.Goals as goal
 
-pub store_send-requires : goal.store_send-requires
-store_send-requires c =
-    let room = sym c.fits.ensures ∙ c.if-fits.true in
-    omega (arith, leb-true, room, c.width.ensures.0, c.width-2.ensures.0, c.width-3.ensures.0)
-
-pub returns-then-fits : goal.returns-then-fits
-returns-then-fits c =
-    put_fits _ _ _ _ _ _ (length_send _ _ _ ∙ omega (arith, c.width.ensures.0, c.width-2.ensures.0, c.width-3.ensures.0))
-    c.fits.ensures c.if-fits.true c.store_send.ensures
-
 pub returns : goal.returns
-returns c =
-    put_full _ _ _ _ (length_send _ _ _ ∙ omega (arith, c.width.ensures.0, c.width-2.ensures.0, c.width-3.ensures.0))
-    c.fits.ensures c.if-fits.false
+unfolding mark
+returns c = rw send_parts c.put_line.ensures

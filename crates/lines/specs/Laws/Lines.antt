@@ -1,10 +1,11 @@
 -- Laws of lines: how long each is, and at most, where its numbers are of 64 bits.
 -- Assumes nothing.
-use Rattle.std.specs.Prelude.{ℕ, suc, ◌+◌, ◌^◌, ◌≤◌, ◌<◌, ◌≡◌, refl, List, ◌++◌, length}
-use Rattle.std.proofs.Common.{◌∙◌, length-append, arith}
+use Rattle.std.specs.Prelude.{ℕ, suc, ◌+◌, ◌^◌, ◌≤◌, ◌<◌, ◌≡◌, refl, List, [], ◌∷◌, ◌++◌, length}
+use Rattle.std.proofs.Common.{◌∙◌, append-nil, append_assoc, length-append, arith}
 use Rattle.lines.specs.Decimal.{decimal}
-use Rattle.lines.specs.Lines.{spaced, newline, mark, bad_word, total_word, event_line, send_line, bad_line, Totals, total_line, too_long}
-use Rattle.lines.specs.Places.Put.{widths}
+use Rattle.lines.specs.declared.Totals.{Totals}
+use Rattle.lines.specs.Lines.{spaced, newline, mark, bad_word, total_word, event_line, send_line, bad_line, total_line, too_long}
+use Rattle.lines.specs.Places.Put.{widths, all_spaced, line_of}
 use Rattle.lines.specs.Laws.Decimal.{decimal_most}
 
 -- the length of a line with a number more
@@ -36,6 +37,36 @@ pub length_bad : (n : ℕ) → length (bad_line n) ≡ length (decimal n) + 5
 unfolding bad_line bad_word
 length_bad n =
     length_ended (bad_word ++ spaced n) ∙ omega (arith, length_spaced bad_word n)
+
+-- an event's line is its position and a line of two numbers
+pub event_parts : (p a s : ℕ) → event_line p a s ≡ decimal p ++ line_of [] (a ∷ s ∷ [])
+unfolding event_line line_of all_spaced
+event_parts p a s = simp (append_assoc, append-nil)
+
+-- and as long as these
+pub length_event_parts : (p a s : ℕ) → length (event_line p a s) ≡ length (decimal p) + length (line_of [] (a ∷ s ∷ []))
+length_event_parts p a s = rw event_parts (length-append (decimal p) (line_of [] (a ∷ s ∷ [])))
+
+-- a send's line is one of a word and numbers
+pub send_parts : (f k l : ℕ) → send_line f k l ≡ line_of mark (f ∷ k ∷ l ∷ [])
+unfolding send_line line_of all_spaced
+send_parts f k l = simp (append_assoc, append-nil)
+
+-- so is the line of an unreadable event
+pub bad_parts : (n : ℕ) → bad_line n ≡ line_of bad_word (n ∷ [])
+unfolding bad_line line_of all_spaced
+bad_parts n = simp (append_assoc, append-nil)
+
+-- the last line
+pub total_parts : (t : Totals) → total_line t
+    ≡ line_of total_word (t.opened ∷ t.answered ∷ t.nacked ∷ t.expired ∷ t.closed ∷ t.self_met ∷ t.still_open ∷ [])
+unfolding total_line line_of all_spaced
+total_parts t = simp (append_assoc, append-nil)
+
+-- and `too long`
+pub long_parts : too_long ≡ line_of (116 ∷ 111 ∷ 111 ∷ 32 ∷ 108 ∷ 111 ∷ 110 ∷ 103 ∷ []) []
+unfolding too_long line_of all_spaced newline
+long_parts = refl
 
 -- an event's line has at most 63 bytes
 pub event_most : (p a s : ℕ) → p < 2 ^ 64 → a < 2 ^ 64 → s < 2 ^ 64 → length (event_line p a s) ≤ 63

@@ -1,14 +1,16 @@
 -- Laws of writing lines: the two outcomes of a writer, stores one after the other, and digits stored from the last to the first.
 -- Assumes nothing.
-use Rattle.std.specs.Prelude.{ℕ, zero, suc, ◌+◌, ◌-◌, ◌/◌, ◌%◌, ◌≤◌, ◌<◌, ◌≡◌, refl, Bool, true, false, List, [], ◌∷◌, ◌++◌, length, set, leb}
-use Rattle.std.proofs.Common.{sym, ap, ◌∙◌, subst, length-set, length-append, arith}
+use Rattle.std.specs.Prelude.{ℕ, zero, suc, ◌+◌, ◌-◌, ◌/◌, ◌%◌, ◌≤◌, ◌<◌, ◌≡◌, refl, Bool, true, false, List, [], ◌∷◌, ◌++◌, length, get_or, set, drop, leb}
+use Rattle.std.proofs.Common.{sym, ap, ◌∙◌, subst, add-one, append-nil, append_assoc, length-set, length-append, drop-cons, arith}
+use Rattle.std.proofs.Math.ListN.{drop_of_length-le}
+use Rattle.std.proofs.Math.Seq.{length-sets}
 use Rattle.std.proofs.lemmas.List.Edits.{sets}
 use Rattle.std.proofs.lemmas.List.{set_comm}
 use Rattle.laws.specs.Laws.Writes.{sets_append, sets_snoc}
 use Rattle.laws.specs.Pick.{pick}
 use Rattle.lines.specs.Decimal.{decimal}
-use Rattle.lines.specs.Lines.{spaced}
-use Rattle.lines.specs.Places.Put.{placed, put, Stored, lowest}
+use Rattle.lines.specs.Lines.{spaced, newline}
+use Rattle.lines.specs.Places.Put.{placed, put, Stored, lowest, all_spaced, line_of}
 use Rattle.lines.specs.Laws.Decimal.{lowest_all}
 
 -- the outcome where vs, of m bytes, is found to fit and is stored
@@ -141,3 +143,75 @@ pub stored_too_long : (b : List ℕ) (at : ℕ)
     (at + 6) 110) (at + 7) 103) (at + 8) 10) (at + 9)
 unfolding stores
 stored_too_long b at = record { same = stores_all (111 ∷ 111 ∷ 32 ∷ 108 ∷ 111 ∷ 110 ∷ 103 ∷ 10 ∷ []) b at 116; past = refl }
+
+-- c is b after the word of a line and its first i numbers were stored from place `at` on, and x is the place past them
+pub record Storing (b : List ℕ) (at : ℕ) (word ns c : List ℕ) (x i : ℕ) : Type 0 where
+  pub done : List ℕ
+  pub stored : Stored b at (word ++ done) c x
+  pub rest : done ++ all_spaced (drop i ns) ≡ all_spaced ns
+
+module _ {b : List ℕ} {at : ℕ} {word c : List ℕ} {x : ℕ} (ns : List ℕ) where
+  -- at the start the word is stored
+  pub storing_none : Stored b at word c x → Storing b at word ns c x 0
+  storing_none s = record { done = []; stored = rw append-nil s; rest = refl }
+
+-- the numbers from the one at i on
+next_spaced : (ns : List ℕ) (i : ℕ) → i < length ns → all_spaced (drop i ns) ≡ spaced (get_or ns i 0) ++ all_spaced (drop (i + 1) ns)
+unfolding all_spaced
+next_spaced ns i h = rw (add-one i, drop-cons ns i 0 h)
+
+-- how long they are
+pub length_next : (ns : List ℕ) (i : ℕ) → i < length ns
+    → length (all_spaced (drop i ns)) ≡ 1 + length (decimal (get_or ns i 0)) + length (all_spaced (drop (i + 1) ns))
+unfolding spaced
+length_next ns i h =
+    omega (arith, ap length (next_spaced ns i h), length-append (spaced (get_or ns i 0)) (all_spaced (drop (i + 1) ns)))
+
+-- past the last there is none
+no_spaced : (ns : List ℕ) (i : ℕ) → length ns ≤ i → all_spaced (drop i ns) ≡ []
+unfolding all_spaced
+no_spaced ns i h = rw drop_of_length-le
+
+-- of no length
+pub length_none : (ns : List ℕ) (i : ℕ) → length ns ≤ i → length (all_spaced (drop i ns)) ≡ 0
+length_none ns i h = ap length (no_spaced ns i h)
+
+-- how long a line is
+pub length_line : (word ns : List ℕ) → length (line_of word ns) ≡ length word + length (all_spaced ns) + 1
+unfolding line_of newline
+length_line word ns = omega (arith, length-append word (all_spaced ns), length-append (word ++ all_spaced ns) (10 ∷ []))
+
+module _ {b : List ℕ} {at : ℕ} {word ns c : List ℕ} {x i : ℕ} (s : Storing b at word ns c x i) where
+  -- a store keeps the length of the buffer
+  length_same : length c ≡ length b
+  length_same = ap length s.stored.same ∙ length-sets b at (word ++ s.done)
+
+  -- how long what is left is
+  length_left : length (line_of word ns) ≡ length word + length s.done + length (all_spaced (drop i ns)) + 1
+  length_left = omega (arith, length_line word ns, ap length s.rest, length-append s.done (all_spaced (drop i ns)))
+
+  -- a number more
+  pub storing_more : (d : List ℕ) (y : ℕ) → i < length ns → Stored c x (spaced (get_or ns i 0)) d y → Storing b at word ns d y (i + 1)
+  storing_more d y h t =
+      let n = spaced (get_or ns i 0) in
+      record {
+        done = s.done ++ n;
+        stored = rw (← (append_assoc word s.done n)) (stored_on _ _ _ _ _ _ _ _ s.stored t);
+        rest = rw (append_assoc s.done n (all_spaced (drop (i + 1) ns)), ← (next_spaced ns i h)) s.rest;
+      }
+
+  -- which has room
+  pub room_more : i < length ns → at + length (line_of word ns) ≤ length b → x + length (spaced (get_or ns i 0)) ≤ length c
+  unfolding spaced
+  room_more h r = omega (arith, s.stored.past, length_same, length_left, length-append word s.done, length_next ns i h)
+
+  -- the end of the line has room
+  pub room_end : at + length (line_of word ns) ≤ length b → x + 1 ≤ length c
+  room_end r = omega (arith, s.stored.past, length_same, length_left, length-append word s.done)
+
+  -- and then the line is stored
+  pub storing_all : (d : List ℕ) (y : ℕ) → length ns ≤ i → Stored c x newline d y → Stored b at (line_of word ns) d y
+  unfolding line_of
+  storing_all d y h t =
+      let e : s.done ≡ all_spaced ns = sym (append-nil s.done) ∙ rw (no_spaced ns i h) at s.rest in
+      rw (← e) (stored_on _ _ _ _ _ _ _ _ s.stored t)

@@ -4,7 +4,8 @@ use Rattle.std.specs.Prelude.{ℕ, zero, suc, ◌+◌, ◌/◌, ◌%◌, ◌≡�
 use Rattle.std.proofs.lemmas.List.Edits.{sets}
 use Rattle.laws.specs.Pick.{pick}
 use Rattle.lines.specs.Decimal.{decimal}
-use Rattle.lines.specs.Lines.{Totals}
+use Rattle.lines.specs.declared.Totals.{Totals}
+use Rattle.lines.specs.Lines.{spaced, newline}
 
 -- the place that a writer gives, and the buffer that it leaves
 pub record Placed : Type 0 where
@@ -22,6 +23,15 @@ put b at vs = pick (leb (at + length vs) (length b)) (placed (at + length vs) (s
 pub record Stored (b : List ℕ) (at : ℕ) (vs c : List ℕ) (r : ℕ) : Type 0 where
   pub same : c ≡ sets b at vs
   pub past : r ≡ at + length vs
+
+-- numbers, each after a space
+unfoldable pub all_spaced : List ℕ → List ℕ
+all_spaced [] = []
+all_spaced (n ∷ ns) = spaced n ++ all_spaced ns
+
+-- a line of a word and numbers
+unfoldable pub line_of : List ℕ → List ℕ → List ℕ
+line_of word ns = word ++ all_spaced ns ++ newline
 
 -- the i lowest digits of m, leading zeros kept
 unfoldable pub lowest : ℕ → ℕ → List ℕ

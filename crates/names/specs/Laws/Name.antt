@@ -1,6 +1,6 @@
 -- The laws by which names are judged from a place on, and by which a first component is known.
 -- Assumes nothing.
-use Rattle.std.specs.Prelude.{◌≡◌, ℕ, suc, ◌+◌, ◌-◌, ◌<◌, ◌≤◌, Bool, false, ◌||◌, ◌≢◌, List, length, take, drop, nat_lt, refl}
+use Rattle.std.specs.Prelude.{◌≡◌, ℕ, suc, ◌+◌, ◌-◌, ◌<◌, ◌≤◌, Bool, false, ◌||◌, ◌≢◌, List, length, take, drop, nat_lt, refl, None, Some}
 use Rattle.std.proofs.Math.Bool.{or-false, or_assoc}
 use Rattle.std.proofs.Math.ListN.{length-drop}
 use borrow.Author.Tests.{lt-ltb, le-ltb, eq-eqb, ne_eqb}
@@ -9,7 +9,6 @@ use Rattle.laws.specs.Pick.{pick}
 use Rattle.laws.specs.Laws.Pick.{pick_ind}
 use Rattle.wire.specs.declared.read.Cursor.{Cursor}
 use Rattle.wire.specs.declared.read.Element.{Element}
-use Rattle.wire.specs.declared.read.Read.{Read}
 use Rattle.wire.specs.declared.verdict.Verdict.{Verdict}
 use Rattle.wire.specs.Element.{Split, ended}
 use Rattle.wire.specs.Places.Place.{element_at}
@@ -39,11 +38,11 @@ module _ (met : Bool) (n : ℕ) (s : List ℕ) (at : ℕ) where
   judged_end h = let z : n + 0 ≡ n = omega arith in rw (walk_end component s at h, or-false met, z)
 
   -- bytes are left that are no component
-  pub judged_fault : at < length s → element_at s at ≡ Read.Bad → judged_from met n (components (drop at s)) ≡ counts Verdict.Malformed 0
+  pub judged_fault : at < length s → element_at s at ≡ None → judged_from met n (components (drop at s)) ≡ counts Verdict.Malformed 0
   unfolding components judged_from pick ended
   judged_fault h e = rw (walk_bad component s at e, length-drop at s, ne_eqb (length s - at) 0 (λ q. omega arith))
 
-  module _ (e : Element) (c : Cursor) (i : element_at s at ≡ Read.Is e c) where
+  module _ (e : Element) (c : Cursor) (i : element_at s at ≡ Some (e, c)) where
     -- a component whose type is too high
     pub judged_high : 65535 < e.typ → judged_from met n (components (drop at s)) ≡ counts Verdict.Malformed 0
     unfolding components judged_from any_of too_high ended pick
@@ -62,17 +61,17 @@ module _ (met : Bool) (n : ℕ) (s : List ℕ) (at : ℕ) where
 
 module _ (w s : List ℕ) where
   -- no component is no word
-  pub first_none : element_at s 0 ≡ Read.Bad → first_is w s ≡ false
+  pub first_none : element_at s 0 ≡ None → first_is w s ≡ false
   unfolding first_is
   first_none e = let b = read_bad s 0 e in rw b
 
   -- a first component of another type
-  pub first_other : (e : Element) (c : Cursor) → element_at s 0 ≡ Read.Is e c → e.typ ≢ 8 → first_is w s ≡ false
+  pub first_other : (e : Element) (c : Cursor) → element_at s 0 ≡ Some (e, c) → e.typ ≢ 8 → first_is w s ≡ false
   unfolding first_is
   first_other e c i n = let b = (read_is s 0 e c i).same in rw (b, ne_eqb e.typ 8 n)
 
   -- a first component of type 8 is compared with the word
-  pub first_word : (e : Element) (c : Cursor) → element_at s 0 ≡ Read.Is e c → e.typ ≡ 8
+  pub first_word : (e : Element) (c : Cursor) → element_at s 0 ≡ Some (e, c) → e.typ ≡ 8
       → first_is w s ≡ same_bytes (take e.len (drop e.at s)) w
   unfolding first_is
   first_word e c i q = let b = (read_is s 0 e c i).same in rw (b, eq-eqb e.typ 8 q)

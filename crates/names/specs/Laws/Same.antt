@@ -1,8 +1,9 @@
 -- Equality and prefix of names: what `same_bytes` and `prefix_of` say of the bytes, the laws by which `same` and `is_prefix` meet them, and
 -- what a name's bytes have to do with its components.
 -- Assumes nothing.
-use Rattle.std.specs.Prelude.{◌≡◌, ℕ, ◌+◌, ◌<◌, ◌≤◌, Bool, true, false, ◌&&◌, ◌≢◌, List, [], ◌∷◌, ◌++◌, map, length, take, drop, ◌==◌, slice_index, slice_index_or, refl}
+use Rattle.std.specs.Prelude.{◌≡◌, ℕ, ◌+◌, ◌<◌, ◌≤◌, Bool, true, false, ◌&&◌, ◌≢◌, List, [], ◌∷◌, ◌++◌, map, length, take, drop, ◌==◌, nat_eq, slice_index, slice_index_or, refl}
 use Rattle.std.proofs.Common.{sym, ◌∙◌, append_assoc, length-take, drop_of_length-le, take-append-drop, arith}
+use Rattle.std.specs.Cmp.Lexicographic.{pointwise}
 use Rattle.std.proofs.Math.Path.{ap}
 use Rattle.std.proofs.Math.Seq.{drop-cons, take-append_seam}
 use borrow.Author.Tests.{eq-eqb, ne_eqb, eqb-true}
@@ -29,6 +30,14 @@ same_equal (a ∷ k) [] e = cc
 same_equal (a ∷ k) (b ∷ l) e =
     let h = both (a == b) (same_bytes k l) e in
     rw (eqb-true a b h.0, same_equal k l h.1)
+
+-- the library's comparison of two lists of bytes
+pub same_is : (a b : List ℕ) → pointwise nat_eq a b ≡ same_bytes a b
+unfolding same_bytes
+same_is [] [] = refl
+same_is [] (b ∷ l) = refl
+same_is (a ∷ k) [] = refl
+same_is (a ∷ k) (b ∷ l) = ap (λ (t : Bool). (a == b) && t) (same_is k l)
 
 -- a list is the same bytes as itself
 pub same_refl : (a : List ℕ) → same_bytes a a ≡ true

@@ -20,7 +20,6 @@ use Rattle.pending_table.specs.Places.View as pending
 use Rattle.pending_table.specs.declared.Pending.{Pending}
 use Rattle.pending_pass.specs.Lowest.{class_word, class_words, is_asked, meets_own, is_owed}
 use Rattle.pending_pass.specs.Satisfies.{data_fate, ends_by, Satisfies}
-use Rattle.store.specs.declared.Kept.{Kept}
 use Rattle.store.specs.Places.View as store
 use Rattle.store.specs.Operations.{fits_row, kept, Puts}
 use Rattle.happenings.specs.Noted.{most_rows, Notes}
@@ -38,12 +37,11 @@ use Rattle.on_data.specs.Laws.Only.{none_in, some_in, only_both, only_all}
 use Rattle.coming.specs.Laws.Goes.{goes_by, goes_packed}
 
 -- the classes of pending entries are said by their numbers, whatever the tables hold
-pub pending_said : (names heads : Table) (recs : List Table) (numbers : List ℕ) (s : Pending)
-    → AllSaid (pending.view names heads recs numbers s)
-pending_said names heads recs numbers s = pending.view_said most_faces names heads recs numbers s
+pub pending_said : (p : Pending) → AllSaid (pending.view p)
+pending_said p = pending.view_classes p
 
 -- a Data that fits a row is stored as the rules say
-pub puts_stored : (r : Kept) (ds ds' : List Stored) (bytes : List ℕ) (time fresh freshness : ℕ) → length bytes ≤ most_packet
+pub puts_stored : (r : Bool) (ds ds' : List Stored) (bytes : List ℕ) (time fresh freshness : ℕ) → length bytes ≤ most_packet
     → fresh ≡ freshness → Puts r ds' (store.data_of bytes time fresh) ds
     → ds' ≡ stored most_stored (stored_as time (record { name = name_of bytes; freshness = freshness }) bytes) ds
 unfolding kept fits_row store.data_of stored_as

@@ -1,19 +1,21 @@
 -- Refused where it begins, or on from the aged node by what the command makes of it.
-use mathlib.Core.Path.{sym, ◌∙◌}
-use Rattle.event.specs.Laws.Comes.{step_refused, step_on}
+use mathlib.Core.Path.{refl}
+use Rattle.event.specs.Places.Begins.{began}
+use Rattle.event.specs.Laws.Comes.{comes_is, step_refused, step_on}
 use Rattle.on_face.specs.Laws.Comes.{comes_faces}
 use Rattle.on_face.specs.Laws.Faces.{open_bad}
 use Rattle.on_face.proofs.open_face.Goals as goal
 
-pub returns-then-number-ne0 : goal.returns-then-number-ne0
-returns-then-number-ne0 c =
-    step_refused _ _ _ _ _ _ _ _ _ _ (open_bad _ _ _ _ _ c.is_no_face-bad.ensures)
-    c.begins-begun.ensures
-    (λ e. c.if-number-ne0.true (c.number.ensures ∙ e))
+pub returns-in-Err : goal.returns-in-Err
+unfolding began
+returns-in-Err c =
+    comes_is _ _ _ _ _ _ _ c.quiet.ensures
+    (step_refused _ _ _ _ _ _ _ _ _ _ (open_bad _ _ _ _ _ c.is_no_face-bad.ensures) c.in-Err.ensures.begun c.in-Err.ensures.refused)
 
-pub returns : goal.returns
-returns c =
+pub returns-in-Ok : goal.returns-in-Ok
+unfolding began
+returns-in-Ok c =
     step_on _ _ _ _ _ _ _ _ _ _ (open_bad _ _ _ _ _ c.is_no_face-bad.ensures)
-    c.begins-begun.ensures _ _ _
-    (sym c.number.ensures ∙ c.if-number-ne0.false)
-    (λ _. comes_faces _ _ _ _ _ _ _ _ _ _ _ _ _ _ _ _ _ _ c.opening-then.ensures c.quiet.ensures)
+    c.in-Ok.ensures.begun _ _ _ refl
+    (λ _. comes_faces _ _ _ _ _ _ _ _ _ c.opening-then.ensures (rw c.err.ensures.value at c.unwrap_or.ensures)
+    c.quiet-in-Ok.ensures)

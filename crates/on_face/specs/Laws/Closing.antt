@@ -16,9 +16,10 @@ use Rattle.happenings.specs.Noted.{most_rows}
 use Rattle.faces.specs.declared.Faces.{Faces}
 use Rattle.faces.specs.Places.View as faces
 use Rattle.routes.specs.Places.View as routes
+use Rattle.routes.specs.declared.Routes.{Routes}
 use Rattle.pending_table.specs.declared.Pending.{Pending}
 use Rattle.pending_table.specs.Places.View as pending
-use Rattle.dead.specs.declared.Ring.{Ring}
+use Rattle.dead.specs.declared.Dead.{Dead}
 use Rattle.dead.specs.Places.View as dead
 use Rattle.pending_pass.specs.Closes.{Closes}
 use Rattle.rules.specs.Node.{Node, close_face, print_of}
@@ -26,7 +27,7 @@ use Rattle.rules.specs.Packed.{packed, packed_from}
 use Rattle.rules.specs.Command.{close_step}
 use Rattle.rules.specs.Step.{what_step}
 use Rattle.event.specs.declared.Came.{Came}
-use Rattle.event.specs.declared.Small.{Small}
+use Rattle.event.specs.declared.Memory.{Memory}
 use Rattle.event.specs.Memory.{Table, node_of}
 use Rattle.event.specs.Comes.{Comes}
 use Rattle.event.specs.Laws.Comes.{comes_is}
@@ -45,48 +46,17 @@ unfolding what_step close_step packed packed_from print_of
 turned_closed time f k n fs rts es ls r ss b rs rs' ef er c room ea et =
     comes_noted k _ r _ _ _ ea (rw (ef, er, c.entries, c.lines)) et refl refl room c.rows
 
-module _ (time f k : ℕ) (s : Small) (r : Came) (p g g' c n h h' : Table) (e : List Table) (m : List ℕ) (q u l l' : Table)
-    (ss : Table) (b : List ℕ) (rs rs' : Table) (fs : Faces) (es : Pending) (ring : Ring) (made : ℕ) where
+module _ (time f k : ℕ) (m : Memory) (r : Came) (ss : Table) (b : List ℕ) (rs rs' : Table) where
   -- of the node that a memory means
-  pub comes_closed : faces.view fs ≡ set_slot f none (faces.view s.faces)
-      → routes.view p g' c s.routes ≡ map (with_hop f none) (routes.view p g c s.routes)
-      → Closes (fingerprint fnv_start) time f (pending.view n h e m s.pending) (dead.view l s.ring) rs k
-      (pending.view n h' e m es) (dead.view l' ring) rs' made
-      → k + length (each (closing_ends time f) (pending.view n h e m s.pending)) ≤ most_rows
-      → r ≡ record {
-        answer = Answer.Done;
-        small = record { time = s.time; faces = fs; routes = s.routes; pending = es; store = s.store; ring = ring };
-        sent = 0;
-        made = made;
-      }
-      → Comes k
-      (what_step most_faces time
-      (node_of (record {
-        small = s;
-        prefixes = p;
-        settings = g;
-        costs = c;
-        names = n;
-        heads = h;
-        recs = e;
-        numbers = m;
-        packets = q;
-        uses = u;
-        lines = l;
-      })) (close_face f)) r
-      (node_of (record {
-        small = r.small;
-        prefixes = p;
-        settings = g';
-        costs = c;
-        names = n;
-        heads = h';
-        recs = e;
-        numbers = m;
-        packets = q;
-        uses = u;
-        lines = l';
-      })) (record { sends = ss; buffer = b; rows = rs }) (record { sends = ss; buffer = b; rows = rs' })
+  pub comes_closed : (fs : Faces) (t : Routes) (p : Pending) (d : Dead) (made : ℕ)
+      → faces.view fs ≡ set_slot f none (faces.view m.faces)
+      → routes.view t ≡ map (with_hop f none) (routes.view m.routes)
+      → Closes (fingerprint fnv_start) time f (pending.view m.pending) (dead.view m.dead) rs k (pending.view p) (dead.view d) rs' made
+      → k + length (each (closing_ends time f) (pending.view m.pending)) ≤ most_rows
+      → r ≡ record { answer = Answer.Done; sent = 0; made = made }
+      → Comes k (what_step most_faces time (node_of m) (close_face f)) r
+      (node_of (record { time = m.time; faces = fs; routes = t; pending = p; store = m.store; dead = d }))
+      (record { sends = ss; buffer = b; rows = rs }) (record { sends = ss; buffer = b; rows = rs' })
   unfolding node_of
-  comes_closed ef er cl room i =
-      comes_is _ _ _ _ _ _ _ _ _ _ _ _ _ _ _ _ i (turned_closed _ _ _ _ _ _ _ _ _ _ _ _ _ ef er cl room refl refl)
+  comes_closed fs t p d made ef er cl room i =
+      comes_is _ _ _ _ _ _ _ i (turned_closed _ _ _ _ _ _ _ _ _ _ _ _ _ ef er cl room refl refl)

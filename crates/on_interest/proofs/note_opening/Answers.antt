@@ -6,11 +6,9 @@ use Rattle.on_interest.proofs.note_opening.Goals as goal
 
 pub returns-then-has : goal.returns-then-has
 returns-then-has c t e at w =
-    noted_not e _ _ _ _ _ t _ _ (view_wide most_faces _ _ _ _ _ _ e at).0 at c.asking_faces-asking.ensures _
-    c.has.ensures c.if-has.true
+    noted_not e _ _ _ _ _ t _ _ (view_wide most_faces _ _ _ _ _ _ e at).0 at c.asking_faces.ensures _ c.has.ensures c.if-has.true
 
-pub returns : goal.returns
-returns c t e at w =
-    noted_opened e _ _ _ _ _ t _ _ (view_wide most_faces _ _ _ _ _ _ e at).0 at
-    c.asking_faces-asking.ensures _ _ _ _ _ c.has.ensures
-    c.if-has.false w c.number-fate.ensures c.note.ensures
+pub returns-else-has : goal.returns-else-has
+returns-else-has c t e at w =
+    noted_opened e _ _ _ _ _ t _ _ (view_wide most_faces _ _ _ _ _ _ e at).0 at c.asking_faces.ensures _ _ _ _ c.has.ensures
+    c.if-has.false w c.note.ensures

@@ -1,11 +1,12 @@
 -- By the entry that was found.
+use mathlib.Core.Path.{◌∙◌}
 use Rattle.ways.specs.Laws.Own.{loops_own}
+use Rattle.on_interest.specs.Laws.Sought.{met_by}
 use Rattle.on_interest.proofs.see.Goals as goal
 
 pub returns : goal.returns
 returns c =
     record {
-      at = c.find-h.ensures.at;
-      looping = loops_own _ _ _ _ _ _ _ _ _ c.loops-looped.ensures;
-      standing = c.is_there-there.ensures;
+      looping = λ n a x p d y w z v. loops_own _ _ _ _ _ _ _ _ _ c.loops-looped.ensures n a x p d y w z (c.find-handle.ensures.at ∙ v);
+      met = rw c.then_some.ensures (met_by _ _ _ _ _ c.find-handle.ensures.at c.is_there.ensures);
     }

@@ -3,7 +3,6 @@ use Rattle.on_interest.specs.Laws.Served.{served_goes}
 use Rattle.on_interest.proofs.serve.Goals as goal
 
 pub returns : goal.returns
-returns c names heads recs numbers lines rows a h ef ej e =
-    served_goes _ _ _ a h _ _ _ _ _ _ _ _ _ _ _ _ _ ef ej e c.bytes_of-bytes.ensures.fits c.requires
-    c.bytes_of-bytes.ensures.bytes c.find_name.ensures c.class_for-class.ensures
-    c.send_data-sent.ensures c.touch-store.ensures.touched
+returns c rows a h ef ej e =
+    served_goes c.args.m.now _ _ a h _ _ _ _ _ _ _ _ _ _ _ ef ej e c.bytes_of-bytes.ensures.fits c.requires
+    c.bytes_of-bytes.ensures.bytes c.find_name.ensures c.class_for-class.ensures c.send_data-sent.ensures c.touch.ensures.touched

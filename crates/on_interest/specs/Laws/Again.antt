@@ -23,6 +23,7 @@ use Rattle.routes.specs.Places.View as routes
 use Rattle.happenings.specs.Noted.{most_rows, Notes}
 use Rattle.pending_entry.specs.Operations.{request_with, sent_with}
 use Rattle.pending_table.specs.declared.Facts.{Facts}
+use Rattle.pending_table.specs.declared.Pending.{Pending}
 use Rattle.pending_table.specs.Operations.{nothing, facts_of}
 use Rattle.pending_table.specs.Places.View.{view, view_said}
 use Rattle.rules.specs.Node.{Node}
@@ -32,11 +33,12 @@ use Rattle.rules.specs.Interest.{Arrival, request_of, sent_of, forwards, opens, 
 use Rattle.sending.specs.Rows.{Packs, if_room}
 use Rattle.sending.specs.Laws.One.{interest_fits}
 use Rattle.ways.specs.Laws.Said.{resends_said}
-use Rattle.event.specs.Memory.{Table, Memory, node_of}
+use Rattle.event.specs.declared.Memory.{Memory}
+use Rattle.event.specs.Memory.{Table, node_of}
 use Rattle.coming.specs.Goes.{Goes}
 use Rattle.coming.specs.Places.Found.{limit_of, ask_found, arrival_found}
 use Rattle.coming.specs.Places.Guarded.{Guarded}
-use Rattle.opening.specs.Places.Asked.{came, memory_pending}
+use Rattle.opening.specs.Places.Asked.{came}
 
 module _ {A : Type 0} where
   -- what stands at a place that was changed
@@ -65,30 +67,25 @@ pub facts_class : (o : Option Entry) (x : Entry) (r : Facts) → o ≡ some x �
 unfolding given facts_of
 facts_class o x r e q = let z : given nothing facts_of o ≡ facts_of x = rw e in ap (λ (y : Facts). y.class) (q ∙ z)
 
-module _ (m : Memory) (k f : ℕ) (bare name : List ℕ) (i : Interest) (j : ℕ) (x : Entry) (expiry to made : ℕ) (heads : Table)
-    (recs : List Table) (hs hs' : Table) (b : List ℕ) (g : Guarded m.small.time (length b) bare name)
-    (at : at_place j (view m.names m.heads m.recs m.numbers m.small.pending) ≡ some x)
-    (ee : expiry ≡ min m.small.time most_time + min i.lifetime most_lifetime)
-    (er : view m.names heads recs m.numbers m.small.pending
-    ≡ on_at j (asking f (request_with i.nonce expiry)) (view m.names m.heads m.recs m.numbers m.small.pending))
-    (next : (n : Node) (a : Arrival) (e : Entry) → n.faces ≡ faces.view m.small.faces
-    → n.routes ≡ routes.view m.prefixes m.settings m.costs m.small.routes
-    → a.face ≡ f → a.ask.name ≡ name → a.ask.hop ≡ limit_of i.hop
-    → at_place j (view m.names heads recs m.numbers m.small.pending) ≡ some e
-    → to ≡ given 0 (λ h. h) (resends m.small.time n a e))
+module _ (m : Memory) (k f : ℕ) (bare name : List ℕ) (i : Interest) (j j' : ℕ) (x : Entry) (expiry to made : ℕ) (asked : Pending)
+    (hs hs' : Table) (b : List ℕ) (g : Guarded m.time (length b) bare name) (at : at_place j (view m.pending) ≡ some x)
+    (ee : expiry ≡ min m.time most_time + min i.lifetime most_lifetime)
+    (er : view asked ≡ on_at j (asking f (request_with i.nonce expiry)) (view m.pending)) (same : j' ≡ j)
+    (next : (n : Node) (a : Arrival) (e : Entry) → n.faces ≡ faces.view m.faces → n.routes ≡ routes.view m.routes → a.face ≡ f
+    → a.ask.name ≡ name → a.ask.hop ≡ limit_of i.hop → at_place j' (view asked) ≡ some e → to ≡ given 0 (λ h. h) (resends m.time n a e))
     (noted : Notes most_rows made hs' hs k
     (map row_of (pick (is_some (slot f x.requests)) []
-    (happens opened m.small.time x (record { face = f; what = request_with i.nonce expiry }) ∷ [])))) where
+    (happens opened m.time x (record { face = f; what = request_with i.nonce expiry }) ∷ [])))) where
   -- the entries before
   abbrev es : List Entry
-  es = view m.names m.heads m.recs m.numbers m.small.pending
+  es = view m.pending
 
   -- the entry with the request
   abbrev e' : Entry
   e' = asking f (request_with i.nonce expiry) x
 
   -- the expiry that the rules give
-  expires : expiry ≡ m.small.time + min i.lifetime most_lifetime
+  expires : expiry ≡ m.time + min i.lifetime most_lifetime
   expires = omega (arith, g.timely, ee)
 
   -- the face where it came
@@ -104,7 +101,8 @@ module _ (m : Memory) (k f : ℕ) (bare name : List ℕ) (i : Interest) (j : ℕ
   -- the hop that the code found is that of the rules
   hop : to ≡ given 0 (λ h. h) (resends (node_of m).time (node_of m) (arrival_found f bare i) e')
   unfolding node_of arrival_found ask_found
-  hop = next _ _ e' refl refl refl (sym g.own) refl (ap (at_place j) er ∙ at_changed j _ es x at)
+  hop = next _ _ e' refl refl refl (sym g.own) refl
+      (ap (λ (z : ℕ). at_place z (view asked)) same ∙ ap (at_place j) er ∙ at_changed j _ es x at)
 
   -- the outcome, by the request that was made
   again : asks_again (node_of m).time (node_of m) (arrival_found f bare i) j x
@@ -117,8 +115,8 @@ module _ (m : Memory) (k f : ℕ) (bare name : List ℕ) (i : Interest) (j : ℕ
 
   -- where there is no hop, nothing is sent
   pub again_quiet : (ss : Table) → to ≡ 0
-      → Goes k (asks_again (node_of m).time (node_of m) (arrival_found f bare i) j x) (came Answer.Done m.small 0 made)
-      (node_of (memory_pending m m.small.pending m.names heads recs m.numbers))
+      → Goes k (asks_again (node_of m).time (node_of m) (arrival_found f bare i) j x) (came Answer.Done 0 made)
+      (node_of (record m { pending = asked }))
       (record { sends = ss; buffer = b; rows = hs }) (record { sends = ss; buffer = b; rows = hs' })
   unfolding sends_on node_of given packed packed_from
   again_quiet ss z =
@@ -133,24 +131,24 @@ module _ (m : Memory) (k f : ℕ) (bare name : List ℕ) (i : Interest) (j : ℕ
       })
 
   -- where there is one, it is sent there
-  pub again_sends : (w : ℕ) (heads' : Table) (recs' : List Table) (t : ℕ) (ss ss' : Table) (b' : List ℕ) → to ≢ 0
+  pub again_sends : (w : ℕ) (left : Pending) (t : ℕ) (ss ss' : Table) (b' : List ℕ) → to ≢ 0
       → w ≡ class_number x.cls
-      → view m.names heads' recs' m.numbers m.small.pending
-      ≡ on_at j (sending to (sent_with i.nonce m.small.time)) (view m.names heads recs m.numbers m.small.pending)
+      → view left ≡ on_at j' (sending to (sent_with i.nonce m.time)) (view asked)
       → Packs (if_room (lowered bare i.hop) b
       (record { face = to; kind = interest; cls = class_of w; bytes = lowered bare i.hop } ∷ []))
       t ss ss' b b'
-      → Goes k (asks_again (node_of m).time (node_of m) (arrival_found f bare i) j x) (came Answer.Done m.small t made)
-      (node_of (memory_pending m m.small.pending m.names heads' recs' m.numbers))
+      → Goes k (asks_again (node_of m).time (node_of m) (arrival_found f bare i) j x) (came Answer.Done t made)
+      (node_of (record m { pending = left }))
       (record { sends = ss; buffer = b; rows = hs }) (record { sends = ss'; buffer = b'; rows = hs' })
   unfolding sends_on node_of given forwards arrival_found ask_found sent_of asking with_requests
-  again_sends w heads' recs' t ss ss' b' z ew es' p =
+  again_sends w left t ss ss' b' z ew es' p =
       let c : class_of w ≡ x.cls = rw ew (view_said most_faces _ _ _ _ _ j x at) in
       let sent : Packs (record { face = to; kind = interest; cls = class_of w; bytes = lowered bare i.hop } ∷ []) t ss ss' b b' =
       rw (interest_fits bare i.hop b (record { face = to; kind = interest; cls = class_of w; bytes = lowered bare i.hop } ∷ [])
       g.small g.roomy) at p in
       let own = rw c at sent in
-      let both = es' ∙ ap (on_at j (sending to (sent_with i.nonce m.small.time))) er
+      let both = es' ∙ ap (λ (q : ℕ). on_at q (sending to (sent_with i.nonce m.time)) (view asked)) same
+      ∙ ap (on_at j (sending to (sent_with i.nonce m.time))) er
       ∙ on_twice j _ _ es ∙ on_known j _ es x at in
       rw (again, resends_said _ _ _ _ to hop ∙ pick_no _ _ _ (ne_eqb to 0 z))
       (record { answer = refl; node = rw both; sent = own.sent; sends = own.noted; buffer = own.buffer; noted = noted })

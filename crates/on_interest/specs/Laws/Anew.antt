@@ -14,7 +14,8 @@ use Rattle.store.specs.Laws.Hits.{hit_at_lem, look_some, look_none}
 use Rattle.rules.specs.Node.{Node}
 use Rattle.rules.specs.Interest.{Arrival, routed, served, asks_anew, asks_entry}
 use Rattle.event.specs.declared.Came.{Came}
-use Rattle.event.specs.Memory.{Memory, Output, node_of}
+use Rattle.event.specs.declared.Memory.{Memory}
+use Rattle.event.specs.Memory.{Output, node_of}
 use Rattle.coming.specs.Goes.{Goes, guarded}
 use Rattle.coming.specs.Places.Found.{ask_found, arrival_named, arrival_found}
 use Rattle.coming.specs.Places.Guarded.{Guarded}
@@ -24,15 +25,15 @@ use Rattle.opening.specs.Places.Sized.{Sized}
 use Rattle.opening.specs.Laws.Checks.{guard_sized}
 
 module _ (m : Memory) (k f : ℕ) (bare name : List ℕ) (i : Interest) (j : ℕ) (own : name ≡ name_of bare)
-    (ej : j ≡ given (length (view m.packets m.uses m.small.store)) (λ h. h.place)
-    (lookup m.small.time name i.can_be_prefix i.must_be_fresh (view m.packets m.uses m.small.store)))
-    (b : Bool) (eb : b ≡ is_some (at_place j (view m.packets m.uses m.small.store))) (r : Came) (n : Node) (o o' : Output) where
+    (ej : j ≡ given (length (view m.store)) (λ h. h.place)
+    (lookup m.time name i.can_be_prefix i.must_be_fresh (view m.store)))
+    (b : Bool) (eb : b ≡ is_some (at_place j (view m.store))) (r : Came) (n : Node) (o o' : Output) where
   -- the Data
   abbrev ds : List Stored
-  ds = view m.packets m.uses m.small.store
+  ds = view m.store
 
   -- a hit is served
-  by_hit : (h : Hit) → lookup m.small.time name i.can_be_prefix i.must_be_fresh ds ≡ some h
+  by_hit : (h : Hit) → lookup m.time name i.can_be_prefix i.must_be_fresh ds ≡ some h
       → asks_entry (node_of m).time (node_of m) (arrival_found f bare i) none ≡ served (node_of m) (arrival_found f bare i) h
   unfolding asks_entry asks_anew arrival_found ask_found node_of
   by_hit h e = let q = rw own at e in rw q
@@ -43,22 +44,22 @@ module _ (m : Memory) (k f : ℕ) (bare name : List ℕ) (i : Interest) (j : ℕ
       → Goes k (asks_entry (node_of m).time (node_of m) (arrival_found f bare i) none) r n o o'
   unfolding arrival_found
   anew_serves y s =
-      let t = look_some m.small.time name i.can_be_prefix i.must_be_fresh ds j ej (sym eb ∙ y) in
+      let t = look_some m.time name i.can_be_prefix i.must_be_fresh ds j ej (sym eb ∙ y) in
       let there : at_place j ds ≡ some t.hit.what =
-      ap (λ (z : ℕ). at_place z ds) (sym t.at) ∙ hit_at_lem m.small.time name i.can_be_prefix i.must_be_fresh ds t.hit
+      ap (λ (z : ℕ). at_place z ds) (sym t.at) ∙ hit_at_lem m.time name i.can_be_prefix i.must_be_fresh ds t.hit
       t.took in
       goes_by _ _ _ r n o o' (by_hit t.hit t.took) (s (arrival_found f bare i) t.hit refl t.at there)
 
   -- else the longest route is taken
-  pub anew_routes : b ≡ false → Guarded m.small.time (length o.buffer) bare name
+  pub anew_routes : b ≡ false → Guarded m.time (length o.buffer) bare name
       → Goes k (guarded (length o.buffer) (length bare) (length name) (node_of m)
       (routed (node_of m).time (node_of m) (arrival_named f name bare i) (longest name (node_of m).routes))) r n o o'
       → Goes k (asks_entry (node_of m).time (node_of m) (arrival_found f bare i) none) r n o o'
   unfolding asks_entry asks_anew arrival_found ask_found node_of
   anew_routes y g h =
-      let e = look_none m.small.time name i.can_be_prefix i.must_be_fresh ds j ej (sym eb ∙ y) in
+      let e = look_none m.time name i.can_be_prefix i.must_be_fresh ds j ej (sym eb ∙ y) in
       let q = rw own at e in
-      let sized : Sized m.small.time (length o.buffer) (length bare) (length name) =
+      let sized : Sized m.time (length o.buffer) (length bare) (length name) =
       record { timely = g.timely; roomy = g.roomy; small = g.small; short = g.short } in
       let past = guard_sized m (length o.buffer) (length bare) (length name) k _ r n o o' sized h in
       rw q (rw (arrival_named_lem f name bare i own, own) at past)

@@ -1,6 +1,6 @@
 -- What is asked again, HopLimit and scope, as the code asks them.
 -- Assumes nothing.
-use Rattle.std.specs.Prelude.{ℕ, ◌≡◌, Bool, List, ◌≢◌, length, eqb}
+use Rattle.std.specs.Prelude.{ℕ, ◌≡◌, Bool, List, ◌≢◌, length, eqb, Result, Ok, Err, IsErrAnd}
 use Rattle.std.proofs.Math.Path.{refl, sym, ap}
 use Rattle.std.proofs.Common.{◌∙◌, arith, eqb-true, eq-eqb, ne_eqb}
 use Rattle.std.proofs.Math.Bool.{true, false}
@@ -16,7 +16,10 @@ use Rattle.rules.specs.Node.{Node}
 use Rattle.rules.specs.Outcome.{Outcome, quiet}
 use Rattle.rules.specs.Interest.{hop_is_zero, out_of_scope, interest_step}
 use Rattle.event.specs.declared.Came.{Came}
-use Rattle.event.specs.Memory.{Memory, Output, node_of}
+use Rattle.event.specs.declared.Memory.{Memory}
+use Rattle.event.specs.Memory.{Output, node_of}
+use Rattle.event.specs.Places.Begins.{allowed}
+use Rattle.event.specs.Laws.Allowed.{allowed_err, allowed_refuses, allowed_zero, allowed_passes}
 use Rattle.coming.specs.Goes.{Goes, guard_says, guarded}
 use Rattle.coming.specs.Places.Found.{limit_of, ask_found, arrival_found}
 use Rattle.coming.specs.Places.Guarded.{Guarded}
@@ -25,35 +28,53 @@ use Rattle.coming.specs.Laws.Goes.{goes_by, goes_quiet}
 use Rattle.opening.specs.Places.Asked.{came}
 use Rattle.on_interest.specs.Places.Sought.{checked, sought}
 
+-- the answer for HopLimit 0 refuses
+refuses_zero : ◌≡◌ {A = Result (Unit {0}) Answer} (Err Answer.HopLimit) (allowed Answer.HopLimit)
+unfolding allowed pick
+refuses_zero = refl
+
+-- the answer for scope refuses
+refuses_scope : ◌≡◌ {A = Result (Unit {0}) Answer} (Err Answer.Scope) (allowed Answer.Scope)
+unfolding allowed pick
+refuses_scope = refl
+
+-- the answer `Done` allows
+allows_done : ◌≡◌ {A = Result (Unit {0}) Answer} (Ok tt) (allowed Answer.Done)
+unfolding allowed pick
+allows_done = refl
+
 -- the answer of the two checks
 abbrev two_say : Bool → Bool → Answer
 two_say z s = pick z Answer.HopLimit (pick s Answer.Scope Answer.Done)
 
-module _ (g y : Answer) (w : ℕ) (z s : Bool) (ey : y ≡ g) (ew : w ≡ number_of y) where
-  -- an answer that is not 0 stands
-  pub check_stops : w ≢ 0 → y ≡ checked g z s
+module _ (g : Answer) (z s : Bool) (r : Result (Unit {0}) Answer) (er : r ≡ allowed g) where
+  -- an answer that refuses stands, passed on as by `?`
+  pub check_stops : (q : Result (Unit {0}) Answer) (y : Answer) → r ≡ Err y → IsErrAnd q (λ a. a ≡ y) → q ≡ allowed (checked g z s)
   unfolding checked
-  check_stops d = ey ∙ sym (pick_no _ _ _ (ne_eqb (number_of g) 0 (λ q. d (ew ∙ ap number_of ey ∙ q))))
+  check_stops q y d h =
+      let e : allowed g ≡ Err y = sym er ∙ d in
+      allowed_passes q g y h e ∙ ap (λ (a : Answer). Err a) (sym (allowed_err g y e)) ∙ sym e
+      ∙ ap allowed (sym (pick_no _ _ _ (ne_eqb (number_of g) 0 (allowed_refuses g y e))))
 
-  module _ (d : w ≡ 0) where
+  module _ (u : Unit {0}) (d : r ≡ Ok u) where
     -- else the two checks say it
     check_past : checked g z s ≡ two_say z s
     unfolding checked
-    check_past = pick_yes _ _ _ (eq-eqb (number_of g) 0 (ap number_of (sym ey) ∙ sym ew ∙ d))
+    check_past = pick_yes _ _ _ (eq-eqb (number_of g) 0 (allowed_zero g u (sym er ∙ d)))
 
     module _ (a : Bool) (ea : a ≡ z) where
       -- "Interest with HopLimit 0"
-      pub check_zero : a ≡ true → Answer.HopLimit ≡ checked g z s
-      check_zero t = sym (check_past ∙ pick_yes _ _ _ (sym ea ∙ t))
+      pub check_zero : a ≡ true → Err Answer.HopLimit ≡ allowed (checked g z s)
+      check_zero t = refuses_zero ∙ ap allowed (sym (check_past ∙ pick_yes _ _ _ (sym ea ∙ t)))
 
       module _ (t : a ≡ false) (b : Bool) (eb : b ≡ s) where
         -- "under /localhost from a non-local face"
-        pub check_scope : b ≡ true → Answer.Scope ≡ checked g z s
-        check_scope u = sym (check_past ∙ pick_no _ _ _ (sym ea ∙ t) ∙ pick_yes _ _ _ (sym eb ∙ u))
+        pub check_scope : b ≡ true → Err Answer.Scope ≡ allowed (checked g z s)
+        check_scope v = refuses_scope ∙ ap allowed (sym (check_past ∙ pick_no _ _ _ (sym ea ∙ t) ∙ pick_yes _ _ _ (sym eb ∙ v)))
 
         -- else nothing is against it
-        pub check_none : b ≡ false → Answer.Done ≡ checked g z s
-        check_none u = sym (check_past ∙ pick_no _ _ _ (sym ea ∙ t) ∙ pick_no _ _ _ (sym eb ∙ u))
+        pub check_none : b ≡ false → Ok tt ≡ allowed (checked g z s)
+        check_none v = allows_done ∙ ap allowed (sym (check_past ∙ pick_no _ _ _ (sym ea ∙ t) ∙ pick_no _ _ _ (sym eb ∙ v)))
 
 -- the answer 0 of the two checks says that neither holds
 two_off : (z s : Bool) → number_of (two_say z s) ≡ 0 → (z ≡ false) × (s ≡ false)
@@ -81,18 +102,18 @@ all_off g z s h = go (eqb (number_of g) 0) refl
         (eqb-true _ _ q, two.0, two.1)
     go false q = absurd (eqb-false _ _ q (ap number_of (sym (pick_no _ (two_say z s) g q)) ∙ h))
 
-module _ (m : Memory) (k room f : ℕ) (bare name : List ℕ) (i : Interest) (own : name ≡ name_of bare) (y : Answer) (w : ℕ)
-    (ey : (n : Node) → n.faces ≡ faces.view m.small.faces
-    → y ≡ checked (guard_says m.small.time room (length bare) (length name)) (hop_is_zero (limit_of i.hop)) (out_of_scope n f name))
-    (ew : w ≡ number_of y) where
+module _ (m : Memory) (k room f : ℕ) (bare name : List ℕ) (i : Interest) (own : name ≡ name_of bare) (q : Result (Unit {0}) Answer)
+    (eq : (n : Node) → n.faces ≡ faces.view m.faces
+    → q ≡ allowed (checked (guard_says m.time room (length bare) (length name)) (hop_is_zero (limit_of i.hop))
+    (out_of_scope n f name))) where
   -- what is asked again
   abbrev g : Answer
-  g = guard_says m.small.time room (length bare) (length name)
+  g = guard_says m.time room (length bare) (length name)
 
   -- the answer, in the node
-  said : y ≡ checked g (hop_is_zero (limit_of i.hop)) (out_of_scope (node_of m) f name)
+  said : q ≡ allowed (checked g (hop_is_zero (limit_of i.hop)) (out_of_scope (node_of m) f name))
   unfolding node_of
-  said = ey (node_of m) refl
+  said = eq (node_of m) refl
 
   -- the whole outcome
   abbrev x : Outcome
@@ -106,35 +127,38 @@ module _ (m : Memory) (k room f : ℕ) (bare name : List ℕ) (i : Interest) (ow
   unfolding interest_step sought arrival_found ask_found
   step_is z e = rw own at e
 
-  -- an answer that is not 0 is the outcome's
-  stops : (b : Bool) → eqb (number_of g) 0 ≡ b → w ≢ 0 → guarded room (length bare) (length name) (node_of m) x ≡ quiet y (node_of m)
+  -- an answer that refuses is the outcome's
+  stops : (y : Answer) → y ≡ checked g (hop_is_zero (limit_of i.hop)) (out_of_scope (node_of m) f name) → number_of y ≢ 0
+      → (b : Bool) → eqb (number_of g) 0 ≡ b → guarded room (length bare) (length name) (node_of m) x ≡ quiet y (node_of m)
   unfolding checked node_of
-  stops true q d =
-      let two : y ≡ two_say (hop_is_zero (limit_of i.hop)) (out_of_scope (node_of m) f name) = said ∙ pick_yes _ _ _ q in
-      guard_goes (node_of m) x room (length bare) (length name) g refl (eqb-true _ _ q)
-      ∙ step_is _ (two_on (node_of m) _ _ _ (λ e. d (ew ∙ ap number_of two ∙ e)))
+  stops y is d true t =
+      let two : y ≡ two_say (hop_is_zero (limit_of i.hop)) (out_of_scope (node_of m) f name) = is ∙ pick_yes _ _ _ t in
+      guard_goes (node_of m) x room (length bare) (length name) g refl (eqb-true _ _ t)
+      ∙ step_is _ (two_on (node_of m) _ _ _ (λ e. d (ap number_of two ∙ e)))
       ∙ ap (λ (a : Answer). quiet a (node_of m)) (sym two)
-  stops false q d =
-      guard_stops (node_of m) x room (length bare) (length name) g refl (eqb-false _ _ q)
-      ∙ ap (λ (a : Answer). quiet a (node_of m)) (sym (said ∙ pick_no _ _ _ q))
+  stops y is d false t =
+      guard_stops (node_of m) x room (length bare) (length name) g refl (eqb-false _ _ t)
+      ∙ ap (λ (a : Answer). quiet a (node_of m)) (sym (is ∙ pick_no _ _ _ t))
 
   -- such an answer is given with nothing sent
-  pub checks_off : (o : Output) → w ≢ 0
+  pub checks_off : (y : Answer) (o : Output) → q ≡ Err y
       → Goes k (guarded room (length bare) (length (name_of bare)) (node_of m)
-      (interest_step (node_of m).time (node_of m) (arrival_found f bare i))) (came y m.small 0 k) (node_of m) o o
-  checks_off o d =
+      (interest_step (node_of m).time (node_of m) (arrival_found f bare i))) (came y 0 k) (node_of m) o o
+  checks_off y o d =
+      let e = sym said ∙ d in
+      let is = allowed_err _ y e in
       rw own at
-      (goes_by k _ _ _ _ o o (stops (eqb (number_of g) 0) refl d)
-      (goes_quiet k y (came y m.small 0 k) (node_of m) o refl refl refl))
+      (goes_by k _ _ _ _ o o (stops y is (λ z. allowed_refuses _ y e (ap number_of (sym is) ∙ z)) (eqb (number_of g) 0) refl)
+      (goes_quiet k y (came y 0 k) (node_of m) o refl refl refl))
 
-  module _ (d : w ≡ 0) where
+  module _ (u : Unit {0}) (d : q ≡ Ok u) where
     -- nothing is against it
     off : (number_of g ≡ 0) × (hop_is_zero (limit_of i.hop) ≡ false) × (out_of_scope (node_of m) f name ≡ false)
-    off = all_off g _ _ (ap number_of (sym said) ∙ sym ew ∙ d)
+    off = all_off g _ _ (allowed_zero _ u (sym said ∙ d))
 
     -- the code past the checks may rely on the sizes
-    pub checks_hold : Guarded m.small.time room bare name
-    checks_hold = guard_holds m.small.time room bare name own g (number_of g) refl refl off.0
+    pub checks_hold : Guarded m.time room bare name
+    checks_hold = guard_holds m.time room bare name own g refl off.0
 
     -- and it is sought
     pub checks_on : (r : Came) (n : Node) (o o' : Output) → Goes k (sought (node_of m).time (node_of m) (arrival_found f bare i)) r n o o'

@@ -49,11 +49,11 @@ module _ (e : Entry) (o : Option Entry) (set f nonce expiry t k : ℕ) (rows : T
   noted_not b q y = rw (sym has ∙ sym q ∙ y, pick_yes) (notes_none most_rows k rows)
 
   -- one that opens is
-  pub noted_opened : (b : Bool) (w r x : ℕ) (rows' : Table) → b ≡ has_face most_faces set f → b ≡ false → w ≡ class_number e.cls
-      → x ≡ fate_number (fate_in Fate.Opened) → Notes most_rows r rows' rows k (note_of f w x nonce expiry ∷ [])
+  pub noted_opened : (b : Bool) (w r : ℕ) (rows' : Table) → b ≡ has_face most_faces set f → b ≡ false → w ≡ class_number e.cls
+      → Notes most_rows r rows' rows k (note_of f w (fate_number (fate_in Fate.Opened)) nonce expiry ∷ [])
       → Notes most_rows r rows' rows k
       (map row_of (pick (is_some (slot f e.requests)) []
       (happens opened t e (record { face = f; what = request_with nonce expiry }) ∷ [])))
   unfolding fate_in
-  noted_opened b w r x rows' q y c z h =
-      rw (sym has ∙ sym q ∙ y, pick_no) (rw (row_is opened t e (record { face = f; what = request_with nonce expiry }), ← c, ← z) h)
+  noted_opened b w r rows' q y c h =
+      rw (sym has ∙ sym q ∙ y, pick_no) (rw (row_is opened t e (record { face = f; what = request_with nonce expiry }), ← c) h)

@@ -2,15 +2,19 @@
 use Rattle.sizes.specs.Sizes.{most_faces}
 use Rattle.happenings.specs.Noted.{fate_in}
 use Rattle.pending_table.specs.Places.View.{view_wide, view_said}
+use Rattle.pending_pass.specs.Laws.Turn.{leaves_stood}
+use Rattle.event.specs.Memory.{node_of}
 use Rattle.on_nack.specs.Laws.Turns.{turn_ends, facts_class}
 use Rattle.on_nack.proofs.end_by_nack.Goals as goal
 
 pub returns : goal.returns
-unfolding fate_in
+unfolding fate_in node_of
 returns c =
     let a = c.args in
+    let s = c.end_requests.ensures.stands in
     λ e p known least.
-    turn_ends a.small a.made _ _ _ e p (view_wide most_faces _ _ _ _ _ _ e p).0 (view_said most_faces _ _ _ _ _ _ e p)
+    turn_ends (node_of a.m.now) a.made _ e p (view_wide most_faces _ _ _ _ _ _ e p).0 (view_said most_faces _ _ _ _ _ _ e p)
     a.reason a.name.now a.prefix a.fresh least known _ _ _ _ c.asking_faces-asking.ensures c.all_peer-all.ensures
-    c.common-peers.ensures (facts_class _ _ _ e c.facts_of-facts.ensures p) _ _ _ c.send_nacks-sent.ensures _
-    (c.note_requests-noted.ensures a.small.time) _ _ c.end_requests.ensures _ _ _ c.leave_if_idle-gone.ensures _ _
+    c.common-peers.ensures (facts_class _ _ _ e c.facts_of-class.ensures p) _ _ _ c.send_nacks-sent.ensures _
+    (c.note_requests-noted.ensures a.m.now.time) _ _ c.end_requests.ensures.changed _ _ _
+    (λ x q. leaves_stood _ _ x _ _ _ _ _ _ _ a.h s (c.leave_if_idle.ensures.leaves x (rw (s.places a.h) q)))

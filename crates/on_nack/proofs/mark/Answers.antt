@@ -1,31 +1,30 @@
 -- By case: an out-record is still open, or all are Nacked and the requests end by Nack.
-use mathlib.Core.Path.{refl}
-use mathlib.Core.List.{[]}
 use Rattle.sizes.specs.Sizes.{most_faces}
 use Rattle.records.specs.Entry.{with_nack}
 use Rattle.pending_handle.specs.Laws.Reason.{view_reason}
-use Rattle.on_nack.specs.Laws.Turns.{turns_is, marked_there, turn_open, turn_nacked, least_is, known_marked, reason_byte}
+use Rattle.event.specs.Memory.{node_of}
+use Rattle.on_nack.specs.Laws.Turns.{marked_there, turn_open, turn_nacked, least_is, known_marked, reason_byte}
 use Rattle.on_nack.proofs.mark.Goals as goal
 
-pub returns-in-Open : goal.returns-in-Open
-returns-in-Open c =
+pub returns-in-None : goal.returns-in-None
+unfolding node_of
+returns-in-None c =
     let a = c.args in
+    let at = c.mark_nacked.ensures.stands.places a.h in
     λ e p known.
-    turns_is _ _ _ _ _ _ _ _ _ _ _ _ _ _ c.quiet.ensures
-    (turn_open a.small a.made _ _ _ _ e p a.face a.reason c.mark_nacked.ensures _ c.all_nacked.ensures
-    c.in-Open.is _ _ refl)
+    turn_open (node_of a.m.now) a.made _ _ e p a.face a.reason c.mark_nacked.ensures.changed _ (rw at at c.all_nacked.ensures)
+    c.in-None.is _ _ c.quiet.ensures
 
-pub returns-in-All : goal.returns-in-All
-returns-in-All c =
+pub returns-in-Some : goal.returns-in-Some
+unfolding node_of
+returns-in-Some c =
     let a = c.args in
+    let at = c.mark_nacked.ensures.stands.places a.h in
     λ e p known.
-    let there =
-    marked_there a.small a.made _ _ _ [] e p a.face a.reason c.mark_nacked.ensures _ c.all_nacked.ensures in
-    let least =
-    least_is a.small a.made _ _ _ [] e p a.face a.reason c.mark_nacked.ensures _ c.all_nacked.ensures _
-    c.in-All.is in
-    turn_nacked a.small a.made _ _ _ _ e p a.face a.reason c.mark_nacked.ensures _ c.all_nacked.ensures _
-    c.in-All.is _ _ _ _ _
-    (c.end_by_nack.ensures (with_nack a.face a.reason e) there
+    let told = rw at at c.all_nacked.ensures in
+    let there = marked_there (node_of a.m.now) a.made _ _ e p a.face a.reason c.mark_nacked.ensures.changed _ told in
+    let least = least_is (node_of a.m.now) a.made _ _ e p a.face a.reason c.mark_nacked.ensures.changed _ told _ c.in-Some.is in
+    turn_nacked (node_of a.m.now) a.made _ _ e p a.face a.reason c.mark_nacked.ensures.changed _ told _ c.in-Some.is _ _ _ _
+    (rw at at (c.end_by_nack.ensures (with_nack a.face a.reason e) (rw at there)
     (known_marked a.name.now a.prefix a.fresh a.face a.reason e known)
-    (reason_byte _ _ least (view_reason most_faces _ _ _ _ _ _ _ there)))
+    (reason_byte _ _ least (view_reason most_faces _ _ _ _ _ _ _ there))))

@@ -5,5 +5,5 @@ use Rattle.on_nack.proofs.nonce_of.Goals as goal
 pub returns-in-None : goal.returns-in-None
 returns-in-None c = nonce_none _ _ _ c.request_of.ensures c.in-None.is
 
-pub returns-in-Is : goal.returns-in-Is
-returns-in-Is c = nonce_is _ _ _ c.request_of.ensures _ _ c.in-Is.is
+pub returns-in-Some : goal.returns-in-Some
+returns-in-Some c = nonce_is _ _ _ c.request_of.ensures _ c.in-Some.is

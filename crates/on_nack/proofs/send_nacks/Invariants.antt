@@ -1,22 +1,15 @@
 -- A walk over the set's faces, the lowest first: one law for the start, one for a turn, one for the end.
 use mathlib.Core.Path.{◌≡◌}
 use lib.ListN.{length}
-use Rattle.sizes.specs.Sizes.{most_faces}
-use Rattle.records.specs.Slots.{at_place}
-use Rattle.faces.specs.Laws.Walk.{Walks}
-use Rattle.pending_table.specs.Places.View.{view, place}
+use Rattle.pending_table.specs.Places.View.{entry_at}
 use Rattle.sending.specs.Laws.Packing.{Sending}
 use Rattle.on_nack.specs.Places.Nacks.{nacks_on}
 use Rattle.on_nack.proofs.send_nacks.Given as goal
 
 abbrev pub invariant-loop-face : goal.invariant-loop-face
 invariant-loop-face l =
-    let o = at_place (place l.numbers l.s l.h) (view l.names l.heads l.recs l.numbers l.s) in
-    Walks most_faces l.left l.face
-    × Sending l.initial.sends l.initial.out (nacks_on o l.set l.reason l.name l.prefix l.fresh l.class)
-    (nacks_on o l.left l.reason l.name l.prefix l.fresh l.class)
+    let o = entry_at l.p l.h in
+    Sending l.initial.sends l.initial.out (nacks_on o l.set l.reason l.name l.prefix l.fresh l.class)
+    (nacks_on o l.face-iterator.left l.reason l.name l.prefix l.fresh l.class)
     (record { count = l.sent.count; at = l.sent.at; rows = l.sends; buffer = l.out })
     × (length l.out ≡ length l.initial.out)
-
-abbrev pub decreases-loop-face : goal.decreases-loop-face
-decreases-loop-face l = l.left

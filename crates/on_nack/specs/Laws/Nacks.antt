@@ -1,6 +1,7 @@
 -- Nacks sent one after the other, for the faces of a set: the state of the loop, and that they are those of the rules.
 -- Assumes nothing.
-use Rattle.std.specs.Prelude.{ℕ, ◌+◌, ◌-◌, ◌≤◌, ◌<◌, ◌≡◌, Bool, true, ◌&&◌, List, [], ◌∷◌, map, length, get_or}
+use Rattle.std.specs.declared.option.Option as code
+use Rattle.std.specs.Prelude.{ℕ, ◌+◌, ◌-◌, ◌≤◌, ◌<◌, ◌≡◌, Bool, true, ◌&&◌, List, [], ◌∷◌, map, length, get_or, Some, None}
 use Rattle.std.proofs.Math.Path.{refl, ap}
 use Rattle.std.proofs.Common.{◌∙◌}
 use Rattle.std.proofs.Math.Option.{Option, none, some}
@@ -29,14 +30,14 @@ use Rattle.on_nack.specs.Places.Nacks.{nonce_at, nack_with, nonces_on, nacks_on}
 use Rattle.on_nack.specs.Laws.Known.{known_is}
 use Rattle.on_nack.specs.Laws.Peers.{held_peers}
 
-module _ (o : Option Entry) (f : ℕ) (a : Asked) (told : request_in a ≡ given none (λ e. slot f e.requests) o) where
+module _ (o : Option Entry) (f : ℕ) (a : code.Option Asked) (told : request_in a ≡ given none (λ e. slot f e.requests) o) where
   -- the nonce of a request that is told
-  pub nonce_is : (nonce expiry : ℕ) → a ≡ Asked.Is nonce expiry → nonce ≡ nonce_at o f
+  pub nonce_is : (r : Asked) → a ≡ Some r → r.nonce ≡ nonce_at o f
   unfolding nonce_at given request_in
-  nonce_is nonce expiry e = rw (← told, e)
+  nonce_is r e = rw (← told, e)
 
   -- where none is told there is none
-  pub nonce_none : a ≡ Asked.None → 0 ≡ nonce_at o f
+  pub nonce_none : a ≡ None → 0 ≡ nonce_at o f
   unfolding nonce_at given request_in
   nonce_none e = rw (← told, e)
 

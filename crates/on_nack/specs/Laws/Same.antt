@@ -5,7 +5,8 @@ use Rattle.std.specs.Prelude.{ℕ, ◌≡◌, List}
 use denote.Triple.Both.{Both}
 use Rattle.packets.specs.declared.bare.Interest.{Interest}
 use Rattle.event.specs.declared.Came.{Came}
-use Rattle.event.specs.Memory.{Memory, Output, node_of}
+use Rattle.event.specs.declared.Memory.{Memory}
+use Rattle.event.specs.Memory.{Output, node_of}
 use Rattle.event.specs.Laws.Same.{Same}
 use Rattle.coming.specs.Goes.{After}
 use Rattle.coming.specs.Laws.Goes.{after_same}

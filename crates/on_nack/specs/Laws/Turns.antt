@@ -1,7 +1,8 @@
 -- The parts of a Nack's outcome: requests that end by Nack, and an out-record that is marked.
 -- Assumes nothing.
 use Prim.Native.Nat.{ℕ, zero, suc, ◌%◌, ◌≤◌}
-use Rattle.std.specs.Prelude.{◌≡◌, Bool, ◌&&◌, length}
+use Rattle.std.specs.declared.option.Option as code
+use Rattle.std.specs.Prelude.{◌≡◌, Bool, ◌&&◌, length, None, Some}
 use Rattle.std.proofs.Math.Path.{refl, ap}
 use Rattle.std.proofs.Common.{sym, ◌∙◌, mod-eq_of_lt, arith}
 use Rattle.std.proofs.Math.Bool.{true, false}
@@ -24,29 +25,22 @@ use Rattle.records.specs.Rows.{row_of}
 use Rattle.records.specs.Laws.Place.{place_on_at}
 use Rattle.faces.specs.Set.{has_face, faces_where}
 use Rattle.faces.specs.Laws.Where.{where_both}
-use Rattle.faces.specs.Places.View as faces
 use Rattle.happenings.specs.Noted.{most_rows, Notes}
-use Rattle.happenings.specs.Laws.Noted.{notes_none}
-use Rattle.dead.specs.declared.Ring.{Ring}
 use Rattle.pending_entry.specs.Operations.{asking_faces}
-use Rattle.pending_records.specs.declared.Nacks.{Nacks}
 use Rattle.pending_records.specs.Operations.{noted, noted_by, nacks_in, nacks_of}
-use Rattle.pending_table.specs.declared.Pending.{Pending}
 use Rattle.pending_table.specs.declared.Facts.{Facts}
 use Rattle.pending_table.specs.Operations.{nothing, facts_of}
-use Rattle.pending_table.specs.Places.View as pending
-use Rattle.dead.specs.Places.View as dead
 use Rattle.pending_pass.specs.Places.Pass.{Leaves}
-use Rattle.rules.specs.Node.{Node, print_of, with_pending}
+use Rattle.rules.specs.Node.{Node, print_of}
 use Rattle.rules.specs.Outcome.{Outcome, quiet}
-use Rattle.rules.specs.Packed.{packed, packed_from}
 use Rattle.rules.specs.Nack.{peers_of, nack_of, settled, ends_by_nack, nacked_entry}
 use Rattle.sending.specs.Rows.{Packs}
-use Rattle.event.specs.declared.Small.{Small}
 use Rattle.event.specs.declared.Came.{Came}
-use Rattle.event.specs.Memory.{Table, Output}
+use Rattle.event.specs.Memory.{Output}
+use Rattle.coming.specs.Goes.{Goes}
+use Rattle.coming.specs.Laws.Goes.{goes_by, goes_quiet}
 use Rattle.on_nack.specs.Places.Nacks.{nacks_on}
-use Rattle.on_nack.specs.Places.Turns.{Turns}
+use Rattle.on_nack.specs.Places.Turns.{left_with}
 use Rattle.on_nack.specs.Laws.Peers.{only_peers, ending_peers}
 use Rattle.on_nack.specs.Laws.Nacks.{nacks_are}
 
@@ -83,66 +77,52 @@ becoming_there : (k : ℕ) (f : Entry → Entry) (es : List Entry) (e : Entry) �
 unfolding becoming
 becoming_there k f es e p = rw (without_on k f es, on_there k f es e p)
 
--- a small state whose pending table and ring are others
-abbrev pub left_with : Small → Pending → Ring → Small
-left_with s q ring = record { time = s.time; faces = s.faces; routes = s.routes; pending = q; store = s.store; ring = ring }
-
-module _ {C : Type 0} (s : Small) (made : ℕ) (k : ℕ) (es : List Entry) (ls : List Line) (e : Entry) (p : at_place k es ≡ some e)
-    (wide : length e.requests ≡ most_faces) (said : class_of (class_number e.cls) ≡ e.cls) (reason : ℕ) (name : List ℕ) (b m : Bool)
+module _ {C : Type 0} (n : Node) (made k : ℕ) (e : Entry) (p : at_place k n.pending ≡ some e) (wide : length e.requests ≡ most_faces)
+    (said : class_of (class_number e.cls) ≡ e.cls) (reason : ℕ) (name : List ℕ) (b m : Bool)
     (least : reason ≡ smallest_reason (held e.sent)) (known : is_known name b m e ≡ true) where
   -- each point-to-point request ends by a Nack: Nacks sent for the faces of the set, the requests noted and ended, and the entry left
   -- where it has none then
-  pub turn_ends : (asking all set class : ℕ) → asking ≡ given 0 (asking_faces most_faces) (at_place k es)
-      → all ≡ faces_where most_faces (is_peer (faces.view s.faces))
+  pub turn_ends : (asking all set class : ℕ) → asking ≡ given 0 (asking_faces most_faces) (at_place k n.pending)
+      → all ≡ faces_where most_faces (is_peer n.faces)
       → set ≡ faces_where most_faces (λ f. has_face most_faces asking f && has_face most_faces all f)
       → class ≡ class_number e.cls
       → (o o' : Output) (sent : ℕ)
-      → Packs (nacks_on (at_place k es) set reason name b m class) sent o.sends o'.sends o.buffer o'.buffer
+      → Packs (nacks_on (at_place k n.pending) set reason name b m class) sent o.sends o'.sends o.buffer o'.buffer
       → (made' : ℕ)
-      → Notes most_rows made' o'.rows o.rows made (given [] (noted nacked s.time (has_face most_faces set)) (at_place k es))
-      → (es₁ es' : List Entry) → es₁ ≡ on_at k (ending (has_face most_faces set)) es
+      → Notes most_rows made' o'.rows o.rows made (given [] (noted nacked n.time (has_face most_faces set)) (at_place k n.pending))
+      → (es₁ es' : List Entry) → es₁ ≡ on_at k (ending (has_face most_faces set)) n.pending
       → (ms ms' : C → List Bool) (ls' : List Line)
-      → ((x : Entry) → at_place k es₁ ≡ some x → Leaves (fingerprint fnv_start) s.time k x es₁ ms ls es' ms' ls')
-      → (q : Pending) (ring : Ring)
-      → Turns (λ n. ends_by_nack s.time n k e) made s
-      (record { answer = Answer.Done; small = left_with s q ring; sent = sent; made = made' }) es es' ls ls' o o'
+      → ((x : Entry) → at_place k es₁ ≡ some x → Leaves (fingerprint fnv_start) n.time k x es₁ ms n.dead es' ms' ls')
+      → Goes made (ends_by_nack n.time n k e) (record { answer = Answer.Done; sent = sent; made = made' }) (left_with n es' ls') o o'
   unfolding given ends_by_nack settled peers_of noted noted_by print_of
-  turn_ends asking all set class ea eb es-set ec o o' sent packs made' notes es₁ es' ends ms ms' ls' leave q ring =
-      let peer : (ℕ → Bool) = is_peer (faces.view s.faces) in
+  turn_ends asking all set class ea eb es-set ec o o' sent packs made' notes es₁ es' ends ms ms' ls' leave =
+      let peer : (ℕ → Bool) = is_peer n.faces in
       let is : set ≡ faces_where most_faces (λ f. is_some (slot f e.requests) && peer f) = set_is in
       let x : Entry = ending peer e in
       let same : ending (has_face most_faces set) e ≡ x = ending_peers most_faces peer e wide set is in
-      let there : at_place k es₁ ≡ some x = rw ends (place_on_at k (ending (has_face most_faces set)) es e p ∙ ap some same) in
+      let there : at_place k es₁ ≡ some x = rw ends (place_on_at k (ending (has_face most_faces set)) n.pending e p ∙ ap some same) in
       let l = leave x there in
-      let nacks : nacks_on (at_place k es) set reason name b m class ≡ map (nack_of e) (only (λ h. peer h.face) (held e.requests)) =
+      let nacks : nacks_on (at_place k n.pending) set reason name b m class ≡ map (nack_of e) (only (λ h. peer h.face) (held e.requests)) =
       rw p (nacks_are peer e wide set is reason name b m class least known ec said) in
       let w : Packs (map (nack_of e) (only (λ h. peer h.face) (held e.requests))) sent o.sends o'.sends o.buffer
       o'.buffer = rw nacks at packs in
-      let rows : given [] (noted nacked s.time (has_face most_faces set)) (at_place k es)
-      ≡ map row_of (map (happens nacked s.time e) (only (λ h. peer h.face) (held e.requests))) =
+      let rows : given [] (noted nacked n.time (has_face most_faces set)) (at_place k n.pending)
+      ≡ map row_of (map (happens nacked n.time e) (only (λ h. peer h.face) (held e.requests))) =
       rw (p, only_peers most_faces peer e wide set is) in
-      let entries : es' ≡ becoming k x es =
-      l.entries ∙ rw (ends, ← same) (becoming_there k (ending (has_face most_faces set)) es e p) in
+      let entries : es' ≡ becoming k x n.pending =
+      l.entries ∙ rw (ends, ← same) (becoming_there k (ending (has_face most_faces set)) n.pending e p) in
       record {
-        moved = refl;
-        faces = refl;
-        routes = refl;
-        store = refl;
-        goes = λ n et ef ep ed.
-            rw (ef, ep, ed)
-            (record {
-              answer = refl;
-              node = rw (entries, l.lines);
-              sent = w.sent;
-              sends = w.noted;
-              buffer = w.buffer;
-              noted = rw rows at notes;
-            });
+        answer = refl;
+        node = rw (entries, l.lines);
+        sent = w.sent;
+        sends = w.noted;
+        buffer = w.buffer;
+        noted = rw rows at notes;
       }
     where
-      set_is : set ≡ faces_where most_faces (λ f. is_some (slot f e.requests) && is_peer (faces.view s.faces) f)
+      set_is : set ≡ faces_where most_faces (λ f. is_some (slot f e.requests) && is_peer n.faces f)
       set_is = unfold asking_faces in
-          es-set ∙ rw (ea, eb, p) (where_both most_faces (λ f. is_some (slot f e.requests)) (is_peer (faces.view s.faces)))
+          es-set ∙ rw (ea, eb, p) (where_both most_faces (λ f. is_some (slot f e.requests)) (is_peer n.faces))
 
 -- no choice of a reason: the test fails
 not_all : (b : Bool) (k : ℕ) → none ≡ pick b (some k) none → b ≡ false
@@ -157,57 +137,20 @@ is_all true j k q = (refl, some-injective _ _ q)
 is_all false j k q = absurd (none-ne-some j (sym q))
 
 -- an answer alone leaves everything as it was
-pub turn_quiet : (x : Node → Outcome) (y : Answer) (k : ℕ) (s : Small) (r : Came) (es : List Entry) (ls : List Line) (o : Output)
-    → ((n : Node) → n.time ≡ s.time → n.faces ≡ faces.view s.faces → n.pending ≡ es → n.dead ≡ ls → x n ≡ quiet y n)
-    → r ≡ record { answer = y; small = s; sent = 0; made = k } → Turns x k s r es es ls ls o o
-unfolding quiet packed packed_from
-turn_quiet x y k s r es ls o h e =
-    rw e
-    (record {
-      moved = refl;
-      faces = refl;
-      routes = refl;
-      store = refl;
-      goes = λ n et ef ep ed.
-          rw (h n et ef ep ed)
-          (record {
-            answer = refl;
-            node = rw (ep, ed);
-            sent = refl;
-            sends = refl;
-            buffer = refl;
-            noted = notes_none most_rows k o.rows;
-          });
-    })
+pub turn_quiet : (x : Outcome) (y : Answer) (k : ℕ) (r : Came) (n : Node) (o : Output) → x ≡ quiet y n
+    → r ≡ record { answer = y; sent = 0; made = k } → Goes k x r n o o
+turn_quiet x y k r n o h e = rw (h, e) (goes_quiet k y _ n o refl refl refl)
 
--- a result that is told by an equation
-pub turns_is : (x : Node → Outcome) (k : ℕ) (s : Small) (r v : Came) (es : List Entry) (n h : Table) (e : List Table) (m : List ℕ)
-    (ls : List Line) (l : Table) (o o' : Output) → r ≡ v
-    → Turns x k s v es (pending.view n h e m v.small.pending) ls (dead.view l v.small.ring) o o'
-    → Turns x k s r es (pending.view n h e m r.small.pending) ls (dead.view l r.small.ring) o o'
-turns_is x k s r v es n h e m ls l o o' i t = rw i t
-
--- an outcome that is another for every such node
-pub turn_by : (x z : Node → Outcome) (k : ℕ) (s : Small) (r : Came) (es es' : List Entry) (ls ls' : List Line) (o o' : Output)
-    → ((n : Node) → n.time ≡ s.time → n.faces ≡ faces.view s.faces → n.pending ≡ es → n.dead ≡ ls → x n ≡ z n)
-    → Turns z k s r es es' ls ls' o o' → Turns x k s r es es' ls ls' o o'
-turn_by x z k s r es es' ls ls' o o' h t = record {
-  moved = t.moved;
-  faces = t.faces;
-  routes = t.routes;
-  store = t.store;
-  goes = λ n et ef ep ed. rw (h n et ef ep ed) (t.goes n et ef ep ed);
-}
-
-module _ (s : Small) (made k : ℕ) (es es₁ : List Entry) (ls : List Line) (e : Entry) (p : at_place k es ≡ some e) (f reason : ℕ)
-    (marked : es₁ ≡ on_at k (with_nack f reason) es) (a : Nacks) (told : nacks_in a ≡ given none nacks_of (at_place k es₁)) where
+module _ (n : Node) (made k : ℕ) (es₁ : List Entry) (e : Entry) (p : at_place k n.pending ≡ some e) (f reason : ℕ)
+    (marked : es₁ ≡ on_at k (with_nack f reason) n.pending) (a : code.Option ℕ)
+    (told : nacks_in a ≡ given none nacks_of (at_place k es₁)) where
   -- the entry with its out-record marked
   abbrev x : Entry
   x = with_nack f reason e
 
   -- it stands where the entry stood
   pub marked_there : at_place k es₁ ≡ some x
-  marked_there = rw marked (place_on_at k (with_nack f reason) es e p)
+  marked_there = rw marked (place_on_at k (with_nack f reason) n.pending e p)
 
   -- what is told of it
   told_is : nacks_in a ≡ pick (all_nacked x) (some (smallest_reason (held x.sent))) none
@@ -215,58 +158,34 @@ module _ (s : Small) (made k : ℕ) (es es₁ : List Entry) (ls : List Line) (e 
   told_is = told ∙ rw marked_there
 
   -- where not all out-records are Nacked, it stays
-  pub turn_open : a ≡ Nacks.Open → (r : Came) (o : Output) → r ≡ record { answer = Answer.Done; small = s; sent = 0; made = made }
-      → Turns (λ n. nacked_entry s.time n k x) made s r es es₁ ls ls o o
-  unfolding nacked_entry quiet packed packed_from nacks_in
+  pub turn_open : a ≡ None → (r : Came) (o : Output) → r ≡ record { answer = Answer.Done; sent = 0; made = made }
+      → Goes made (nacked_entry n.time n k x) r (left_with n es₁ n.dead) o o
+  unfolding nacked_entry nacks_in
   turn_open w r o q =
       let no : all_nacked x ≡ false = not_all _ _ (ap nacks_in (sym w) ∙ told_is) in
-      let stays : es₁ ≡ on_at k (λ _. x) es = marked ∙ on_there k (with_nack f reason) es e p in
-      rw q
-      (record {
-        moved = refl;
-        faces = refl;
-        routes = refl;
-        store = refl;
-        goes = λ n et ef ep ed.
-            rw (no, pick_no)
-            (record {
-              answer = refl;
-              node = rw (stays, ep, ed);
-              sent = refl;
-              sends = refl;
-              buffer = refl;
-              noted = notes_none most_rows made o.rows;
-            });
-      })
+      let stays : es₁ ≡ on_at k (λ _. x) n.pending = marked ∙ on_there k (with_nack f reason) n.pending e p in
+      turn_quiet _ Answer.Done made r (left_with n es₁ n.dead) o (rw (no, pick_no, stays)) q
 
   -- requests that end by Nack from there on are those that end by this Nack
-  ends_again : (n : Node) → n.pending ≡ es → all_nacked x ≡ true
-      → nacked_entry s.time n k x ≡ ends_by_nack s.time (with_pending n es₁) k x
+  ends_again : all_nacked x ≡ true → nacked_entry n.time n k x ≡ ends_by_nack n.time (left_with n es₁ n.dead) k x
   unfolding nacked_entry ends_by_nack settled peers_of
-  ends_again n ep all =
+  ends_again all =
       pick_yes _ _ _ all
-      ∙ rw (ep, marked, becoming_again k (with_nack f reason) (ending (is_peer n.faces) x) es)
+      ∙ rw (marked, becoming_again k (with_nack f reason) (ending (is_peer n.faces) x) n.pending)
 
-  module _ (least : ℕ) (w : a ≡ Nacks.All least) where
+  module _ (least : ℕ) (w : a ≡ Some least) where
     -- where all are Nacked, the least reason is told
     pub least_is : least ≡ smallest_reason (held x.sent)
     unfolding nacks_in
     least_is = (is_all _ _ _ (ap nacks_in (sym w) ∙ told_is)).1
 
     -- and the requests end by Nack
-    pub turn_nacked : (r : Came) (es' : List Entry) (ls' : List Line) (o o' : Output)
-        → Turns (λ n. ends_by_nack s.time n k x) made s r es₁ es' ls ls' o o'
-        → Turns (λ n. nacked_entry s.time n k x) made s r es es' ls ls' o o'
+    pub turn_nacked : (r : Came) (n' : Node) (o o' : Output)
+        → Goes made (ends_by_nack n.time (left_with n es₁ n.dead) k x) r n' o o' → Goes made (nacked_entry n.time n k x) r n' o o'
     unfolding nacks_in
-    turn_nacked r es' ls' o o' t =
+    turn_nacked r n' o o' t =
         let all : all_nacked x ≡ true = (is_all _ _ _ (ap nacks_in (sym w) ∙ told_is)).0 in
-        record {
-          moved = t.moved;
-          faces = t.faces;
-          routes = t.routes;
-          store = t.store;
-          goes = λ n et ef ep ed. rw (ends_again n ep all) (t.goes (with_pending n es₁) et ef refl ed);
-        }
+        goes_by made _ _ r n' o o' (ends_again all) t
 
 -- the class word that is told of an entry is its class's number
 pub facts_class : (x : Facts) (k : ℕ) (es : List Entry) (e : Entry) → x ≡ given nothing facts_of (at_place k es) → at_place k es ≡ some e

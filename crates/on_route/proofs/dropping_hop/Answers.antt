@@ -1,21 +1,20 @@
 -- One law for each arm.
+use mathlib.Core.Path.{sym, ◌∙◌}
+use Rattle.event.specs.Places.Begins.{answer_of}
 use Rattle.on_route.specs.Laws.Routes.{hop_refused, hop_none, hop_done}
 use Rattle.on_route.proofs.dropping_hop.Goals as goal
 
-pub returns-then-number-ne0 : goal.returns-then-number-ne0
-returns-then-number-ne0 c = hop_refused _ _ c.prefix_answer-said.ensures _ c.number.ensures _ _ c.if-number-ne0.true
+pub returns-in_err-check : goal.returns-in_err-check
+returns-in_err-check c =
+    hop_refused _ _ c.from_residual.result _ c.from_residual.ensures.1 (sym c.check.ensures ∙ c.in_err-check.was) _
 
-pub returns-then-has_hop : goal.returns-then-has_hop
-returns-then-has_hop c =
-    hop_done _ _ c.prefix_answer-said.ensures _
-    c.number.ensures _
-    c.if-number-ne0.false _
-    c.find-route.ensures _ _ c.has_hop.ensures
-    c.if-has_hop.true _ c.drop_hop.ensures
+pub returns-then-not-has_hop : goal.returns-then-not-has_hop
+unfolding answer_of
+returns-then-not-has_hop c =
+    hop_none _ _ _ (sym c.check.ensures ∙ c.in_ok-check.was) _ c.find-route.ensures _ _ c.has_hop.ensures c.if-not-has_hop.true
 
 pub returns : goal.returns
+unfolding answer_of
 returns c =
-    hop_none _ _ c.prefix_answer-said.ensures _
-    c.number.ensures _
-    c.if-number-ne0.false _ c.find-route.ensures _ _
-    c.has_hop.ensures c.if-has_hop.false
+    hop_done _ _ _ (sym c.check.ensures ∙ c.in_ok-check.was) _
+    c.find-route.ensures _ _ c.has_hop.ensures c.if-not-has_hop.false _ c.drop_hop.ensures.changed

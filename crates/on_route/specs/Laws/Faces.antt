@@ -7,7 +7,8 @@ use Rattle.sizes.specs.Sizes.{most_faces}
 use Rattle.records.specs.Face.{is_open}
 use Rattle.rules.specs.Node.{set_route, drop_route, add_hop, drop_hop, face_in, opens_face}
 use Rattle.rules.specs.Step.{bad_face}
-use Rattle.event.specs.Memory.{Memory, node_of}
+use Rattle.event.specs.declared.Memory.{Memory}
+use Rattle.event.specs.Memory.{node_of}
 use Rattle.event.specs.Laws.Faces.{bad_none, bad_named}
 
 module _ (m : Memory) where

@@ -1,6 +1,6 @@
 -- What a prefix is answered, by the code's tests; and a command by its prefix, which is refused so or goes on.
 -- Assumes nothing.
-use Rattle.std.specs.Prelude.{ℕ, suc, ◌≤◌, ◌<◌, ◌≡◌, refl, Bool, true, false, List, ◌≢◌, length, ltb}
+use Rattle.std.specs.Prelude.{ℕ, ◌≤◌, ◌<◌, ◌≡◌, refl, Bool, true, false, List, ◌≢◌, length, ltb, Result, Ok, Err, IsErrAnd}
 use Rattle.std.proofs.Common.{sym, ◌∙◌, arith}
 use Rattle.std.proofs.Math.Path.{ap}
 use borrow.Author.Tests.{lt-ltb, le-ltb, ltb-false}
@@ -14,6 +14,8 @@ use Rattle.names.specs.Name.{counted}
 use Rattle.rules.specs.Node.{Node}
 use Rattle.rules.specs.Outcome.{Outcome, quiet}
 use Rattle.rules.specs.Command.{by_prefix}
+use Rattle.event.specs.Places.Begins.{allowed, answer_of}
+use Rattle.event.specs.Laws.Allowed.{allowed_refuses, allowed_done, allowed_passes}
 use Rattle.on_route.specs.Turns.{prefix_says}
 
 module _ (p : List ℕ) (c : Counted) (e : c ≡ counted p) (m : Bool) (em : m ≡ is_malformed c.said) where
@@ -22,8 +24,8 @@ module _ (p : List ℕ) (c : Counted) (e : c ≡ counted p) (m : Bool) (em : m �
   malformed_is = ap (λ (x : Counted). is_malformed x.said) (sym e) ∙ sym em
 
   -- 5
-  pub says_malformed : m ≡ true → Answer.Malformed ≡ prefix_says p
-  unfolding prefix_says pick
+  pub says_malformed : m ≡ true → Err Answer.Malformed ≡ allowed (prefix_says p)
+  unfolding prefix_says allowed pick
   says_malformed t = rw (malformed_is ∙ t)
 
   module _ (tm : m ≡ false) (u : Bool) (eu : u ≡ is_unsupported c.said) where
@@ -32,74 +34,84 @@ module _ (p : List ℕ) (c : Counted) (e : c ≡ counted p) (m : Bool) (em : m �
     unsupported_is = ap (λ (x : Counted). is_unsupported x.said) (sym e) ∙ sym eu
 
     -- 6
-    pub says_unsupported : u ≡ true → Answer.Unsupported ≡ prefix_says p
-    unfolding prefix_says pick
+    pub says_unsupported : u ≡ true → Err Answer.Unsupported ≡ allowed (prefix_says p)
+    unfolding prefix_says allowed pick
     says_unsupported t = rw (malformed_is ∙ tm, unsupported_is ∙ t)
 
     module _ (tu : u ≡ false) where
       -- 4, by its bytes
-      pub says_long : most_name < length p → Answer.TooLong ≡ prefix_says p
-      unfolding prefix_says pick
+      pub says_long : most_name < length p → Err Answer.TooLong ≡ allowed (prefix_says p)
+      unfolding prefix_says allowed pick
       says_long h = rw (malformed_is ∙ tm, unsupported_is ∙ tu, lt-ltb most_name (length p) h)
 
       -- 4, by its components
-      pub says_many : length p ≤ most_name → most_components < c.count → Answer.TooLong ≡ prefix_says p
-      unfolding prefix_says pick
+      pub says_many : length p ≤ most_name → most_components < c.count → Err Answer.TooLong ≡ allowed (prefix_says p)
+      unfolding prefix_says allowed pick
       says_many h k =
           let z : (counted p).count ≡ c.count = ap (λ (x : Counted). x.count) (sym e) in
           rw (malformed_is ∙ tm, unsupported_is ∙ tu, le-ltb most_name (length p) h, z, lt-ltb most_components c.count k)
 
       -- nothing against it
-      pub says_done : length p ≤ most_name → c.count ≤ most_components → Answer.Done ≡ prefix_says p
-      unfolding prefix_says pick
+      pub says_done : length p ≤ most_name → c.count ≤ most_components → Ok tt ≡ allowed (prefix_says p)
+      unfolding prefix_says allowed pick
       says_done h k =
           let z : (counted p).count ≡ c.count = ap (λ (x : Counted). x.count) (sym e) in
           rw (malformed_is ∙ tm, unsupported_is ∙ tu, le-ltb most_name (length p) h, z, le-ltb most_components c.count k)
 
--- a number past 0 is not 0
-not_zero : {k : ℕ} → suc k ≡ 0 → ⊥
-not_zero e = absurd (omega arith)
-
--- by the answer of tests a command is refused or goes on, and then the third test fails
-tests_answer : (n : Node) (x : Outcome) (a b c d : Bool) (y : Answer)
-    → y ≡ pick a Answer.Malformed (pick b Answer.Unsupported (pick c Answer.TooLong (pick d Answer.TooLong Answer.Done)))
-    → (number_of y ≢ 0
+-- by an answer of the tests other than 0 a command is refused
+tests_refuse : (n : Node) (x : Outcome) (a b c d : Bool)
+    → number_of (pick a Answer.Malformed (pick b Answer.Unsupported (pick c Answer.TooLong (pick d Answer.TooLong Answer.Done)))) ≢ 0
     → pick a (quiet Answer.Malformed n)
     (pick b (quiet Answer.Unsupported n) (pick c (quiet Answer.TooLong n) (pick d (quiet Answer.TooLong n) x)))
-    ≡ quiet y n)
-    × (number_of y ≡ 0
-    → pick a (quiet Answer.Malformed n)
+    ≡ quiet (pick a Answer.Malformed (pick b Answer.Unsupported (pick c Answer.TooLong (pick d Answer.TooLong Answer.Done)))) n
+unfolding pick
+tests_refuse n x true b c d h = refl
+tests_refuse n x false true c d h = refl
+tests_refuse n x false false true d h = refl
+tests_refuse n x false false false true h = refl
+tests_refuse n x false false false false h = absurd (h refl)
+
+-- where they have nothing against it, it goes on, and the third test fails
+tests_pass : (n : Node) (x : Outcome) (a b c d : Bool)
+    → pick a Answer.Malformed (pick b Answer.Unsupported (pick c Answer.TooLong (pick d Answer.TooLong Answer.Done))) ≡ Answer.Done
+    → (pick a (quiet Answer.Malformed n)
     (pick b (quiet Answer.Unsupported n) (pick c (quiet Answer.TooLong n) (pick d (quiet Answer.TooLong n) x)))
     ≡ x)
-    × (number_of y ≡ 0 → c ≡ false)
+    × (c ≡ false)
 unfolding pick
-tests_answer n x true b c d y e =
-    ((λ _. rw e), (λ z. absurd (not_zero (sym (ap number_of e) ∙ z))), (λ z. absurd (not_zero (sym (ap number_of e) ∙ z))))
-tests_answer n x false true c d y e =
-    ((λ _. rw e), (λ z. absurd (not_zero (sym (ap number_of e) ∙ z))), (λ z. absurd (not_zero (sym (ap number_of e) ∙ z))))
-tests_answer n x false false true d y e =
-    ((λ _. rw e), (λ z. absurd (not_zero (sym (ap number_of e) ∙ z))), (λ z. absurd (not_zero (sym (ap number_of e) ∙ z))))
-tests_answer n x false false false true y e =
-    ((λ _. rw e), (λ z. absurd (not_zero (sym (ap number_of e) ∙ z))), (λ _. refl))
-tests_answer n x false false false false y e = ((λ z. absurd (z (ap number_of e))), (λ _. refl), (λ _. refl))
+tests_pass n x true b c d h = absurd (omega (arith, ap number_of h))
+tests_pass n x false true c d h = absurd (omega (arith, ap number_of h))
+tests_pass n x false false true d h = absurd (omega (arith, ap number_of h))
+tests_pass n x false false false true h = (absurd (omega (arith, ap number_of h)), refl)
+tests_pass n x false false false false h = (refl, refl)
 
-module _ (p : List ℕ) (y : Answer) (e : y ≡ prefix_says p) (k : ℕ) (ek : k ≡ number_of y) (n : Node) (x : Outcome) where
-  -- what the tests' answer says
-  tests : (number_of y ≢ 0 → by_prefix n p x ≡ quiet y n) × (number_of y ≡ 0 → by_prefix n p x ≡ x)
-      × (number_of y ≡ 0 → ltb most_name (length p) ≡ false)
-  unfolding by_prefix prefix_says
-  tests =
-      tests_answer n x (is_malformed (counted p).said) (is_unsupported (counted p).said) (ltb most_name (length p))
-      (ltb most_components (counted p).count) y e
-
+module _ (p : List ℕ) where
   -- a command is refused by its prefix
-  pub prefix_refused : k ≢ 0 → by_prefix n p x ≡ quiet y n
-  prefix_refused d = tests.0 (λ z. d (ek ∙ z))
+  pub prefix_refused : (n : Node) (x : Outcome) (y : Answer) → allowed (prefix_says p) ≡ Err y
+      → by_prefix n p x ≡ quiet (prefix_says p) n
+  unfolding by_prefix prefix_says
+  prefix_refused n x y e =
+      tests_refuse n x (is_malformed (counted p).said) (is_unsupported (counted p).said) (ltb most_name (length p))
+      (ltb most_components (counted p).count) (allowed_refuses _ y e)
 
-  -- or goes on
-  pub prefix_on : k ≡ 0 → by_prefix n p x ≡ x
-  prefix_on d = tests.1 (sym ek ∙ d)
+  -- and the refusal is what is answered
+  pub prefix_answered : (r : Result (Unit {0}) Answer) (y : Answer) → IsErrAnd r (λ a. a ≡ y) → allowed (prefix_says p) ≡ Err y
+      → answer_of r ≡ prefix_says p
+  unfolding answer_of
+  prefix_answered r y h e = rw (allowed_passes r _ y h e)
 
-  -- and then the prefix fits a row
-  pub prefix_fits : k ≡ 0 → length p ≤ most_name
-  prefix_fits d = ltb-false most_name (length p) (tests.2 (sym ek ∙ d))
+  module _ (u : Unit {0}) (e : allowed (prefix_says p) ≡ Ok u) where
+    -- what the tests say where they allow it
+    passes : (n : Node) (x : Outcome) → (by_prefix n p x ≡ x) × (ltb most_name (length p) ≡ false)
+    unfolding by_prefix prefix_says
+    passes n x =
+        tests_pass n x (is_malformed (counted p).said) (is_unsupported (counted p).said) (ltb most_name (length p))
+        (ltb most_components (counted p).count) (allowed_done _ u e)
+
+    -- or goes on
+    pub prefix_on : (n : Node) (x : Outcome) → by_prefix n p x ≡ x
+    prefix_on n x = (passes n x).0
+
+    -- and then the prefix fits a row
+    pub prefix_fits : Node → length p ≤ most_name
+    prefix_fits n = ltb-false most_name (length p) (passes n (quiet Answer.Done n)).1

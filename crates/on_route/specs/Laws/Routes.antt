@@ -1,7 +1,7 @@
 -- Setting and dropping a route, and adding and dropping a hop, past ageing: one law for each arm.
 -- Assumes nothing.
 use Prim.Native.Nat.{ℕ, ◌≤◌, ◌<◌}
-use Rattle.std.specs.Prelude.{◌≡◌, Bool, true, false, ◌||◌, ◌≢◌, ltb, leb, eqb}
+use Rattle.std.specs.Prelude.{◌≡◌, Bool, true, false, ◌||◌, ◌≢◌, ltb, leb, eqb, Result, Ok, Err, IsErrAnd}
 use Rattle.std.proofs.Math.Path.{refl, ap}
 use Rattle.std.proofs.Common.{sym, ◌∙◌, arith, lt-ltb, le-ltb, ne_eqb}
 use Rattle.std.proofs.Math.Bool.{not}
@@ -10,7 +10,6 @@ use Rattle.std.proofs.Math.Option.{Option, none, some}
 use Rattle.std.proofs.Math.ListN.{length}
 use Rattle.std.proofs.lemmas.Bool.{eqb-false}
 use Rattle.answers.specs.declared.Answer.{Answer}
-use Rattle.answers.specs.Number.{number_of}
 use Rattle.laws.specs.Pick.{pick}
 use Rattle.laws.specs.Lists.{on_at, without}
 use Rattle.laws.specs.Laws.Pick.{pick_ind, pick_yes, pick_no}
@@ -18,15 +17,15 @@ use Rattle.sizes.specs.Sizes.{most_faces, most_routes, most_name, most_cost}
 use Rattle.records.specs.Class.{Class, class_of, is_class}
 use Rattle.records.specs.Slots.{at_place, is_some, slot, given}
 use Rattle.records.specs.Route.{Route, route_of, with_hop, hop_at, with_class, new_route}
-use Rattle.routes.specs.declared.Settled.{Settled}
 use Rattle.routes.specs.Operations.{is_route, Sets}
 use Rattle.routes.specs.Laws.Bridge.{there_less, set_said, set_left}
 use Rattle.rules.specs.Node.{Node, with_routes, set_route, drop_route, add_hop, drop_hop}
 use Rattle.rules.specs.Outcome.{Outcome, quiet}
 use Rattle.rules.specs.Command.{on_route, set_route_step, drop_route_step, add_hop_step, drop_hop_step}
 use Rattle.rules.specs.Step.{what_step}
+use Rattle.event.specs.Places.Begins.{allowed, answer_of}
 use Rattle.on_route.specs.Turns.{RoutesBy, prefix_says}
-use Rattle.on_route.specs.Laws.Prefix.{prefix_refused, prefix_on, prefix_fits}
+use Rattle.on_route.specs.Laws.Prefix.{prefix_refused, prefix_answered, prefix_on, prefix_fits}
 
 -- a word that is none of the three is no class
 pub no_class_lem : (k : ℕ) → k ≢ 1 → k ≢ 2 → k ≢ 3 → false ≡ is_class (class_of k)
@@ -81,72 +80,73 @@ set_arms n rs xs ys rs' true b t et e = rw (et, e)
 set_arms n rs xs ys rs' false true t et e = rw (et, e)
 set_arms n rs xs ys rs' false false t et e = rw (et, e)
 
-module _ (p : List ℕ) (y : Answer) (e : y ≡ prefix_says p) (k : ℕ) (ek : k ≡ number_of y) (rs : List Route) where
-  -- a route is not dropped by a refused prefix
-  pub drop_refused : k ≢ 0 → RoutesBy (drop_route p) rs y rs
-  unfolding what_step drop_route_step
-  drop_refused d time n = prefix_refused p y e k ek (with_routes n rs) _ d
+module _ (p : List ℕ) (rs : List Route) where
+  module _ (r : Result (Unit {0}) Answer) (y : Answer) (h : IsErrAnd r (λ a. a ≡ y)) (e : allowed (prefix_says p) ≡ Err y) where
+    -- a route is not dropped by a refused prefix
+    pub drop_refused : RoutesBy (drop_route p) rs (answer_of r) rs
+    unfolding what_step drop_route_step
+    drop_refused time n = rw (prefix_answered p r y h e) (prefix_refused p (with_routes n rs) _ y e)
 
-  -- nor is one set
-  pub set_refused : (c : ℕ) → k ≢ 0 → RoutesBy (set_route c p) rs y rs
-  unfolding what_step set_route_step
-  set_refused c d time n = prefix_refused p y e k ek (with_routes n rs) _ d
+    -- nor is one set
+    pub set_refused : (c : ℕ) → RoutesBy (set_route c p) rs (answer_of r) rs
+    unfolding what_step set_route_step
+    set_refused c time n = rw (prefix_answered p r y h e) (prefix_refused p (with_routes n rs) _ y e)
 
-  -- nor is a hop added
-  pub add_refused : (f cost : ℕ) → k ≢ 0 → RoutesBy (add_hop f cost p) rs y rs
-  unfolding what_step add_hop_step
-  add_refused f cost d time n = prefix_refused p y e k ek (with_routes n rs) _ d
+    -- nor is a hop added
+    pub add_refused : (f cost : ℕ) → RoutesBy (add_hop f cost p) rs (answer_of r) rs
+    unfolding what_step add_hop_step
+    add_refused f cost time n = rw (prefix_answered p r y h e) (prefix_refused p (with_routes n rs) _ y e)
 
-  -- nor is one dropped
-  pub hop_refused : (f : ℕ) → k ≢ 0 → RoutesBy (drop_hop f p) rs y rs
-  unfolding what_step drop_hop_step
-  hop_refused f d time n = prefix_refused p y e k ek (with_routes n rs) _ d
+    -- nor is one dropped
+    pub hop_refused : (f : ℕ) → RoutesBy (drop_hop f p) rs (answer_of r) rs
+    unfolding what_step drop_hop_step
+    hop_refused f time n = rw (prefix_answered p r y h e) (prefix_refused p (with_routes n rs) _ y e)
 
-  module _ (d : k ≡ 0) where
+  module _ (u : Unit {0}) (e : allowed (prefix_says p) ≡ Ok u) where
     -- a route is not set to a word that is no class
     pub set_unclassed : (c : ℕ) (b : Bool) → b ≡ is_class (class_of c) → b ≡ false → RoutesBy (set_route c p) rs Answer.BadSetting rs
     unfolding what_step set_route_step
     set_unclassed c b eb q time n =
-        prefix_on p y e k ek (with_routes n rs) _ d ∙ pick_yes _ _ _ (ap not (sym eb ∙ q))
+        prefix_on p u e (with_routes n rs) _ ∙ pick_yes _ _ _ (ap not (sym eb ∙ q))
 
     -- what setting a route to a class comes to
-    set_made : (c : ℕ) (b : Bool) → b ≡ is_class (class_of c) → b ≡ true → (s : Settled) (rs' : List Route)
-        → Sets most_faces s rs' p (class_of c) rs → RoutesBy (set_route c p) rs (pick s.fits Answer.Done Answer.TableFull) rs'
+    set_made : (c : ℕ) (b : Bool) → b ≡ is_class (class_of c) → b ≡ true → (s : Bool) (rs' : List Route)
+        → Sets most_faces s rs' p (class_of c) rs → RoutesBy (set_route c p) rs (pick s Answer.Done Answer.TableFull) rs'
     unfolding what_step set_route_step is_route
     set_made c b eb q s rs' g time n =
-        let fits : length p ≤ most_name = prefix_fits p y e k ek n (quiet y n) d in
-        prefix_on p y e k ek (with_routes n rs) _ d ∙ pick_no _ _ _ (ap not (sym eb ∙ q))
+        let fits : length p ≤ most_name = prefix_fits p u e n in
+        prefix_on p u e (with_routes n rs) _ ∙ pick_no _ _ _ (ap not (sym eb ∙ q))
         ∙ set_arms n rs (on_at (route_of p rs) (with_class (class_of c)) rs) (rs ++ (new_route most_faces p (class_of c) ∷ [])) rs'
-        (is_route p rs) (leb most_routes (length rs)) s.fits (g.said ∙ set_said p rs fits)
+        (is_route p rs) (leb most_routes (length rs)) s (g.said ∙ set_said p rs fits)
         (g.left ∙ set_left p rs fits most_faces (class_of c))
 
-    module _ (c : ℕ) (b : Bool) (eb : b ≡ is_class (class_of c)) (q : b ≡ true) (s : Settled) (rs' : List Route)
+    module _ (c : ℕ) (b : Bool) (eb : b ≡ is_class (class_of c)) (q : b ≡ true) (s : Bool) (rs' : List Route)
         (g : Sets most_faces s rs' p (class_of c) rs) where
       -- it is set, where it is known or fits
-      pub set_done : s.fits ≡ true → RoutesBy (set_route c p) rs Answer.Done rs'
+      pub set_done : s ≡ true → RoutesBy (set_route c p) rs Answer.Done rs'
       set_done t time n = set_made c b eb q s rs' g time n ∙ ap (λ (x : Answer). quiet x (with_routes n rs')) (pick_yes _ _ _ t)
 
       -- else the table is full
-      pub set_full : s.fits ≡ false → RoutesBy (set_route c p) rs Answer.TableFull rs'
+      pub set_full : s ≡ false → RoutesBy (set_route c p) rs Answer.TableFull rs'
       set_full t time n = set_made c b eb q s rs' g time n ∙ ap (λ (x : Answer). quiet x (with_routes n rs')) (pick_no _ _ _ t)
 
     -- a hop is not added for a cost above the most
     pub add_cost : (f cost : ℕ) → most_cost < cost → RoutesBy (add_hop f cost p) rs Answer.BadSetting rs
     unfolding what_step add_hop_step
-    add_cost f cost h time n = prefix_on p y e k ek (with_routes n rs) _ d ∙ pick_yes _ _ _ (lt-ltb most_cost cost h)
+    add_cost f cost h time n = prefix_on p u e (with_routes n rs) _ ∙ pick_yes _ _ _ (lt-ltb most_cost cost h)
 
     module _ (i : ℕ) (ei : i ≡ route_of p rs) where
       module _ (t : Bool) (et : t ≡ is_some (at_place i rs)) where
         -- a route that is absent is not dropped
         pub drop_none : t ≡ false → RoutesBy (drop_route p) rs Answer.NoRoute rs
         unfolding what_step drop_route_step
-        drop_none q time n = prefix_on p y e k ek (with_routes n rs) _ d ∙ on_none p rs i ei t et n _ q
+        drop_none q time n = prefix_on p u e (with_routes n rs) _ ∙ on_none p rs i ei t et n _ q
 
         -- a known one is
         pub drop_done : t ≡ true → (rs' : List Route) → rs' ≡ without i rs → RoutesBy (drop_route p) rs Answer.Done rs'
         unfolding what_step drop_route_step
         drop_done q rs' l time n =
-            prefix_on p y e k ek (with_routes n rs) _ d ∙ on_there p rs i ei t et n _ q
+            prefix_on p u e (with_routes n rs) _ ∙ on_there p rs i ei t et n _ q
             ∙ ap (λ (z : List Route). quiet Answer.Done (with_routes n z)) (sym l)
 
         module _ (f cost : ℕ) (h : cost ≤ most_cost) where
@@ -154,14 +154,14 @@ module _ (p : List ℕ) (y : Answer) (e : y ≡ prefix_says p) (k : ℕ) (ek : k
           pub add_none : t ≡ false → RoutesBy (add_hop f cost p) rs Answer.NoRoute rs
           unfolding what_step add_hop_step
           add_none q time n =
-              prefix_on p y e k ek (with_routes n rs) _ d ∙ pick_no _ _ _ (le-ltb most_cost cost h) ∙ on_none p rs i ei t et n _ q
+              prefix_on p u e (with_routes n rs) _ ∙ pick_no _ _ _ (le-ltb most_cost cost h) ∙ on_none p rs i ei t et n _ q
 
           -- to a known one it is
           pub add_done : t ≡ true → (rs' : List Route) → rs' ≡ on_at i (with_hop f (some cost)) rs
               → RoutesBy (add_hop f cost p) rs Answer.Done rs'
           unfolding what_step add_hop_step
           add_done q rs' l time n =
-              prefix_on p y e k ek (with_routes n rs) _ d ∙ pick_no _ _ _ (le-ltb most_cost cost h) ∙ on_there p rs i ei t et n _ q
+              prefix_on p u e (with_routes n rs) _ ∙ pick_no _ _ _ (le-ltb most_cost cost h) ∙ on_there p rs i ei t et n _ q
               ∙ ap (λ (z : List Route). quiet Answer.Done (with_routes n z)) (sym l)
 
       module _ (f : ℕ) (t : Bool) (et : t ≡ is_some (hop_at f i rs)) where
@@ -169,7 +169,7 @@ module _ (p : List ℕ) (y : Answer) (e : y ≡ prefix_says p) (k : ℕ) (ek : k
         pub hop_done : t ≡ true → (rs' : List Route) → rs' ≡ on_at i (with_hop f none) rs → RoutesBy (drop_hop f p) rs Answer.Done rs'
         unfolding what_step drop_hop_step hop_at
         hop_done q rs' l time n =
-            prefix_on p y e k ek (with_routes n rs) _ d
+            prefix_on p u e (with_routes n rs) _
             ∙ on_there p rs i ei (is_some (at_place i rs)) refl n _ (hop_there f (at_place i rs) (sym et ∙ q))
             ∙ pick_yes _ _ _ (sym et ∙ q)
             ∙ ap (λ (z : List Route). quiet Answer.Done (with_routes n z)) (sym l)
@@ -177,7 +177,7 @@ module _ (p : List ℕ) (y : Answer) (e : y ≡ prefix_says p) (k : ℕ) (ek : k
         -- one that is absent, or on a route that is, is not
         pub hop_none : t ≡ false → RoutesBy (drop_hop f p) rs Answer.NoRoute rs
         unfolding what_step drop_hop_step
-        hop_none q time n = prefix_on p y e k ek (with_routes n rs) _ d ∙ go (is_some (at_place i rs)) refl
+        hop_none q time n = prefix_on p u e (with_routes n rs) _ ∙ go (is_some (at_place i rs)) refl
           where
             x : ℕ → Outcome
             x j = pick (is_some (hop_at f j rs)) (quiet Answer.Done (with_routes n (on_at j (with_hop f none) rs)))

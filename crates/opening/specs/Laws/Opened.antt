@@ -22,17 +22,18 @@ use Rattle.pending_entry.specs.Operations.{bare_entry, request_with, sent_with}
 use Rattle.pending_entry.specs.Laws.Bridge.{new_entry_lem}
 use Rattle.pending_table.specs.declared.Handle.{Handle}
 use Rattle.pending_table.specs.declared.Chosen.{Chosen}
-use Rattle.pending_table.specs.declared.Opened.{Opened}
+use Rattle.pending_table.specs.declared.Pending.{Pending}
 use Rattle.pending_table.specs.Operations.{Opens, fits_table}
-use Rattle.pending_table.specs.Places.View.{view, place}
+use Rattle.pending_table.specs.Places.View.{view, place_of, marks_of, Stands}
 use Rattle.rules.specs.Outcome.{interest}
 use Rattle.rules.specs.Interest.{request_of, sent_of, forwards, new_entry, opens, opens_entry}
 use Rattle.sending.specs.Rows.{Packs, if_room}
 use Rattle.sending.specs.Laws.One.{interest_fits}
-use Rattle.event.specs.Memory.{Table, Memory, node_of}
+use Rattle.event.specs.declared.Memory.{Memory}
+use Rattle.event.specs.Memory.{Table, node_of}
 use Rattle.coming.specs.Goes.{Goes}
 use Rattle.coming.specs.Places.Found.{arrival_named}
-use Rattle.opening.specs.Places.Asked.{came, small_pending, memory_pending}
+use Rattle.opening.specs.Places.Asked.{came}
 use Rattle.opening.specs.Places.Sized.{Sized}
 
 module _ {A : Type 0} where
@@ -43,12 +44,12 @@ module _ {A : Type 0} where
   on_last f (x ∷ l) a = ap (λ (k : List A). x ∷ k) (on_last f l a)
 
 -- an entry that fits, opened and changed twice
-opened_twice : {r : Opened} {e : Entry} {es es' : List Entry} {was stands : Handle → ℕ} {marked marks : Chosen → List Bool}
-    → Opens r e es es' was stands marked marks → length e.name ≤ most_name → length es < most_entries
-    → (f g : Entry → Entry) (mid last : List Entry) → mid ≡ on_at (stands r.handle) f es' → last ≡ on_at (stands r.handle) g mid
+opened_twice : {h : Handle} {e : Entry} {es es' : List Entry} {was stands : Handle → ℕ} {marked marks : Chosen → List Bool}
+    → Opens h e es es' was stands marked marks → length e.name ≤ most_name → length es < most_entries
+    → (f g : Entry → Entry) (mid last : List Entry) → mid ≡ on_at (stands h) f es' → last ≡ on_at (stands h) g mid
     → last ≡ es ++ (g (f e) ∷ [])
 unfolding fits_table
-opened_twice {r} {e} {es} {es'} o short room f g mid last em el =
+opened_twice {h} {e} {es} {es'} o short room f g mid last em el =
     let yes : leb (length e.name) most_name && ltb (length es) most_entries ≡ true =
     rw (le-leb (length e.name) most_name short, lt-ltb (length es) most_entries room) in
     let left : es' ≡ es ++ (e ∷ []) = o.left ∙ pick_yes _ _ _ yes in
@@ -61,39 +62,34 @@ pub expiry_is : {t room packet name : ℕ} (e l : ℕ) → Sized t room packet n
 expiry_is e l g q = omega (arith, g.timely, q)
 
 -- an entry opened with its request, noted and sent
-pub opens_goes : (m : Memory) (k f : ℕ) (bare name : List ℕ) (i : Interest) (w to expiry x : ℕ) (r : Opened) (names heads : Table)
-    (recs : List Table) (numbers : List ℕ) (es₁ es₂ : List Entry) (marked marks : Chosen → List Bool) (t made : ℕ) (rows rows' : Table)
-    (b b' : List ℕ) (hs hs' : Table)
-    → Sized m.small.time (length b) (length bare) (length name) → expiry ≡ m.small.time + min i.lifetime most_lifetime
-    → length (view m.names m.heads m.recs m.numbers m.small.pending) < most_entries
-    → Opens r (bare_entry most_faces name i.can_be_prefix i.must_be_fresh (class_of w))
-    (view m.names m.heads m.recs m.numbers m.small.pending) es₁
-    (place m.numbers m.small.pending) (place numbers r.pending) marked marks
-    → es₂ ≡ on_at (place numbers r.pending r.handle) (asking f (request_with i.nonce expiry)) es₁
-    → view names heads recs numbers r.pending
-    ≡ on_at (place numbers r.pending r.handle) (sending to (sent_with i.nonce m.small.time)) es₂
-    → x ≡ fate_number (fate_in Fate.Opened)
-    → Notes most_rows made hs' hs k (note_of f w x i.nonce expiry ∷ [])
+pub opens_goes : (m : Memory) (k f : ℕ) (bare name : List ℕ) (i : Interest) (w to expiry : ℕ) (h : Handle) (opened asked left : Pending)
+    (t made : ℕ) (rows rows' : Table) (b b' : List ℕ) (hs hs' : Table)
+    → Sized m.time (length b) (length bare) (length name) → expiry ≡ m.time + min i.lifetime most_lifetime
+    → length (view m.pending) < most_entries
+    → Opens h (bare_entry most_faces name i.can_be_prefix i.must_be_fresh (class_of w)) (view m.pending) (view opened)
+    (place_of m.pending) (place_of opened) (marks_of m.pending) (marks_of opened)
+    → view asked ≡ on_at (place_of opened h) (asking f (request_with i.nonce expiry)) (view opened) → Stands opened asked
+    → view left ≡ on_at (place_of asked h) (sending to (sent_with i.nonce m.time)) (view asked)
+    → Notes most_rows made hs' hs k (note_of f w (fate_number (fate_in Fate.Opened)) i.nonce expiry ∷ [])
     → Packs (if_room (lowered bare i.hop) b (record { face = to; kind = interest; cls = class_of w; bytes = lowered bare i.hop } ∷ []))
     t rows rows' b b'
-    → Goes k (opens_entry (node_of m).time (node_of m) (arrival_named f name bare i) (class_of w) to)
-    (came Answer.Done (small_pending m.small r.pending) t made) (node_of (memory_pending m r.pending names heads recs numbers))
+    → Goes k (opens_entry (node_of m).time (node_of m) (arrival_named f name bare i) (class_of w) to) (came Answer.Done t made)
+    (node_of (record m { pending = left }))
     (record { sends = rows; buffer = b; rows = hs }) (record { sends = rows'; buffer = b'; rows = hs' })
 unfolding opens_entry new_entry request_of sent_of forwards opens node_of arrival_named fate_in row_of happens bare_entry
-opens_goes m k f bare name i w to expiry x r names heads recs numbers es₁ es₂ marked marks t made rows rows' b b' hs hs' g ee room o
-    e₁ e₂ ex q p =
+opens_goes m k f bare name i w to expiry h opened asked left t made rows rows' b b' hs hs' g ee room o e₁ s e₂ q p =
     let c = class_of w in
     let new = new_entry_lem most_faces name i.can_be_prefix i.must_be_fresh c f to (request_with i.nonce expiry)
-    (sent_with i.nonce m.small.time) in
-    let left = opened_twice o g.short room _ _ es₂ _ e₁ e₂ in
+    (sent_with i.nonce m.time) in
+    let entries = opened_twice o g.short room _ _ (view asked) _ e₁ (rw (s.places h) at e₂) in
     let sent : Packs (record { face = to; kind = interest; cls = c; bytes = lowered bare i.hop } ∷ []) t rows rows' b b' =
     rw (interest_fits bare i.hop b (record { face = to; kind = interest; cls = c; bytes = lowered bare i.hop } ∷ []) g.small
     g.roomy) at p in
     record {
       answer = refl;
-      node = rw (left, new, faces.view_length most_faces m.small.faces, ← ee);
+      node = rw (entries, new, faces.view_length most_faces m.faces, ← ee);
       sent = sent.sent;
       sends = sent.noted;
       buffer = sent.buffer;
-      noted = rw (class_number_lem w, ← ee, ← ex) q;
+      noted = rw (class_number_lem w, ← ee) q;
     }

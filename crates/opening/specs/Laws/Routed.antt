@@ -29,7 +29,8 @@ use Rattle.rules.specs.Node.{Node}
 use Rattle.rules.specs.Outcome.{nack_for}
 use Rattle.rules.specs.Interest.{Arrival, eligible, new_entry, no_room, opens_entry, may_open, routed}
 use Rattle.event.specs.declared.Came.{Came}
-use Rattle.event.specs.Memory.{Memory, Output, node_of}
+use Rattle.event.specs.declared.Memory.{Memory}
+use Rattle.event.specs.Memory.{Output, node_of}
 use Rattle.coming.specs.Goes.{Goes}
 use Rattle.coming.specs.Places.Found.{limit_of, ask_named, arrival_named}
 use Rattle.coming.specs.Laws.Goes.{goes_by}
@@ -77,15 +78,15 @@ module _ (now : ℕ) (n : Node) (a : Arrival) where
         (lt-ltb most_entries room (leb-false room most_entries (sym q ∙ y))))
 
 module _ (m : Memory) (f : ℕ) (bare name : List ℕ) (i : Interest) (j may to : ℕ) (local : Bool)
-    (el : local ≡ is_local_face (faces.view m.small.faces) f)
-    (ej : j ≡ longest_at name (routes.view m.prefixes m.settings m.costs m.small.routes))
-    (em : (n : Node) (a : Arrival) → n.faces ≡ faces.view m.small.faces → a.face ≡ f → a.ask.hop ≡ limit_of i.hop
+    (el : local ≡ is_local_face (faces.view m.faces) f)
+    (ej : j ≡ longest_at name (routes.view m.routes))
+    (em : (n : Node) (a : Arrival) → n.faces ≡ faces.view m.faces → a.face ≡ f → a.ask.hop ≡ limit_of i.hop
     → a.ask.name ≡ name → may ≡ faces_where most_faces (eligible n a local))
     (et : to ≡ given 0 (λ h. h) (given none (cheapest_of (has_face most_faces may))
-    (at_place j (routes.view m.prefixes m.settings m.costs m.small.routes)))) where
+    (at_place j (routes.view m.routes)))) where
   -- the routes
   abbrev rs : List Route
-  rs = routes.view m.prefixes m.settings m.costs m.small.routes
+  rs = routes.view m.routes
 
   -- the Interest that arrived
   abbrev a : Arrival
@@ -104,7 +105,7 @@ module _ (m : Memory) (f : ℕ) (bare name : List ℕ) (i : Interest) (j may to 
   cheap : given none (cheapest_of p) (longest name rs) ≡ pick (eqb to 0) none (some to)
   cheap =
       cheapest_said p (longest name rs) to
-      (et ∙ rw (ej, may_is) (ap (given 0 (λ (h : ℕ). h)) (longest_cheapest most_faces p _ _ _ _ name)))
+      (et ∙ rw (ej, may_is) (ap (given 0 (λ (h : ℕ). h)) (longest_cheapest most_faces p _ name)))
 
   -- the same, of the node's routes
   cheap_here : given none (cheapest_of p) (longest name (node_of m).routes) ≡ pick (eqb to 0) none (some to)
@@ -122,7 +123,7 @@ module _ (m : Memory) (f : ℕ) (bare name : List ℕ) (i : Interest) (j may to 
     routes_none z h =
         goes_by _ _ _ r n o o' (routed_not _ _ _ _ (cheap_here ∙ pick_yes _ _ _ (eq-eqb to 0 z))) h
 
-    module _ (w : ℕ) (ew : w ≡ given 0 class_word (at_place j (routes.view m.prefixes m.settings m.costs m.small.routes)))
+    module _ (w : ℕ) (ew : w ≡ given 0 class_word (at_place j (routes.view m.routes)))
         (z : to ≢ 0) where
       -- a hop: it may open
       may_open_lem : routed (node_of m).time (node_of m) (arrival_named f name bare i) (longest name (node_of m).routes)
@@ -131,10 +132,10 @@ module _ (m : Memory) (f : ℕ) (bare name : List ℕ) (i : Interest) (j may to 
       may_open_lem =
           let e : w ≡ given 0 class_word (longest name rs) = ew ∙ rw (ej, longest_place name rs) in
           routed_to _ _ _ _ to w (cheap_here ∙ pick_no _ _ _ (ne_eqb to 0 z)) e
-          (λ x q. longest_class most_faces _ _ _ _ name x q)
+          (λ x q. longest_class most_faces _ name x q)
 
       module _ (b : Bool) (q : b ≡ leb (room_taken
-          (view m.names m.heads m.recs m.numbers m.small.pending ++ (bare_entry most_faces [] false false (class_of w) ∷ [])))
+          (view m.pending ++ (bare_entry most_faces [] false false (class_of w) ∷ [])))
           most_entries) where
         -- with room it opens
         pub routes_room : b ≡ true

@@ -9,7 +9,8 @@ use Rattle.rules.specs.Node.{Node}
 use Rattle.rules.specs.Outcome.{Outcome}
 use Rattle.rules.specs.Interest.{routed}
 use Rattle.event.specs.declared.Came.{Came}
-use Rattle.event.specs.Memory.{Memory, Output, node_of}
+use Rattle.event.specs.declared.Memory.{Memory}
+use Rattle.event.specs.Memory.{Output, node_of}
 use Rattle.event.specs.Laws.Same.{Same}
 use Rattle.coming.specs.Goes.{After, guarded}
 use Rattle.coming.specs.Places.Found.{arrival_named}

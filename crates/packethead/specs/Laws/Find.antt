@@ -1,11 +1,10 @@
 -- Laws of the name finder: what it finds from a place on, at the end, at a fault and at an element.
 -- Assumes nothing.
-use Rattle.std.specs.Prelude.{ℕ, ◌≤◌, ◌≡◌, refl, ◌≢◌, List, [], length, take, drop}
+use Rattle.std.specs.Prelude.{ℕ, ◌≤◌, ◌≡◌, refl, ◌≢◌, List, [], length, take, drop, None, Some}
 use borrow.Author.Tests.{eq-eqb, ne_eqb}
 use Rattle.laws.specs.Pick.{pick}
 use Rattle.wire.specs.declared.read.Cursor.{Cursor}
 use Rattle.wire.specs.declared.read.Element.{Element}
-use Rattle.wire.specs.declared.read.Read.{Read}
 use Rattle.wire.specs.Element.{elements}
 use Rattle.wire.specs.Places.Place.{element_at}
 use Rattle.wire.specs.Laws.Within.{read_is, read_bad}
@@ -29,11 +28,11 @@ module _ (v : List ℕ) (at : ℕ) (f : Finding v at) where
   finding_end h = rw (walk_end item v at h) at f
 
   -- at a fault there is none
-  pub finding_bad : element_at v at ≡ Read.Bad → [] ≡ name_in v
+  pub finding_bad : element_at v at ≡ None → [] ≡ name_in v
   unfolding first_name
   finding_bad i = rw (walk_bad item v at i) at f
 
-  module _ (e : Element) (c : Cursor) (i : element_at v at ≡ Read.Is e c) where
+  module _ (e : Element) (c : Cursor) (i : element_at v at ≡ Some (e, c)) where
     -- an element of type 7 is the Name
     pub finding_name : e.typ ≡ 7 → take e.len (drop e.at v) ≡ name_in v
     unfolding first_name pick
@@ -46,11 +45,11 @@ module _ (v : List ℕ) (at : ℕ) (f : Finding v at) where
 
 module _ (s : List ℕ) where
   -- bytes that begin no element have no Name
-  pub name_none : element_at s 0 ≡ Read.Bad → [] ≡ name_of s
+  pub name_none : element_at s 0 ≡ None → [] ≡ name_of s
   unfolding name_of
   name_none i = rw (read_bad s 0 i)
 
   -- the Name of a packet is that in its element's value
-  pub name_at : (e : Element) (c : Cursor) → element_at s 0 ≡ Read.Is e c → name_in (take e.len (drop e.at s)) ≡ name_of s
+  pub name_at : (e : Element) (c : Cursor) → element_at s 0 ≡ Some (e, c) → name_in (take e.len (drop e.at s)) ≡ name_of s
   unfolding name_of
   name_at e c i = rw (read_is s 0 e c i).same

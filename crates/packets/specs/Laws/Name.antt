@@ -4,7 +4,7 @@
 use Prim.Native.Nat.{ℕ, zero, suc, ◌≤◌, ◌<◌}
 use Rattle.std.proofs.Math.Path.{◌≡◌, refl, sym}
 use Rattle.std.proofs.Common.{◌∙◌, ap, get_or-set_same, eqb-true}
-use Rattle.std.specs.Prelude.{Bool, true, ◌&&◌, ◌||◌, ◌≢◌, length, eqb}
+use Rattle.std.specs.Prelude.{Bool, true, ◌&&◌, ◌||◌, ◌≢◌, length, eqb, Option}
 use Rattle.std.proofs.Math.Bool.{false}
 use mathlib.Core.List.{List, [], ◌∷◌}
 use Rattle.std.proofs.Math.ListN.{length-set}
@@ -19,12 +19,12 @@ use Rattle.wire.specs.declared.verdict.Verdict.{Verdict}
 use Rattle.wire.specs.Verdict.{is_malformed}
 use Rattle.grammar.specs.declared.Next.{Next}
 use Rattle.grammar.specs.Types.{interest, dat}
-use Rattle.grammar.specs.Table.{row, any, table, row_of, fits}
+use Rattle.grammar.specs.declared.Rule.{Rule}
+use Rattle.grammar.specs.Table.{row, table, row_of, fits}
 use Rattle.grammar.specs.Laws.Table.{each_row, row_each}
 use Rattle.grammar.specs.Laws.Fits.{row_found, judged_met}
 use Rattle.grammar.specs.Walk.{said_with, known, judged, Item, item, absent, here, Fields, no_fields, broken_fields, met, met_all, walked_from, walked}
 use Rattle.grammar.specs.Laws.Walk.{walked_from_lem}
-use Rattle.packethead.specs.declared.header.Nacked.{Nacked}
 use Rattle.packethead.specs.Header.{val, bytes_in, missing}
 use Rattle.packets.specs.Bare.{asks, brings, nacks, bare_read}
 use Rattle.packethead.specs.Name.{first_name, name_in, name_of}
@@ -32,7 +32,7 @@ use Rattle.packets.specs.Laws.Shape.{IsInterest, IsData, asks_made, brings_made,
 
 -- a parent in which order 1 is that of a Name alone, of any length
 record Naming (p : ℕ) : Type 0 where
-  name : row_of p 0x07 table ≡ row 0x07 p 1 any Verdict.Fine
+  name : row_of p 0x07 table ≡ row 0x07 p 1 Rule.Any Verdict.Fine
   only : (t : ℕ) → (row_of p t table).order ≡ 1 → t ≡ 0x07
 
 -- whether a row of order 1 in an Interest or in a Data is that of a Name
@@ -166,7 +166,7 @@ data_name m l f i =
     let w = i.fields in
     name_of_lem l i.is ∙ rw w (data_finds i.value (rw w at i.fine) (rw w at i.name))
 
-module _ (k : Nacked) (m : Bool) (l : List ℕ) where
+module _ (k : Option ℕ) (m : Bool) (l : List ℕ) where
   -- the finder finds the Name of an Interest that is read
   pub asks_name : {f : Fields} → bare_read k m l ≡ asks f → name_of l ≡ bytes_in (val f 1)
   asks_name {f} e = interest_name m l f (asks_made k m l e).1

@@ -1,7 +1,7 @@
 -- What is read of a packet's elements, and the other way round what a packet that is read is made of: an Interest, a Data, and the header
 -- that it came with.
 -- Assumes nothing.
-use Rattle.std.specs.Prelude.{ℕ, ◌+◌, ◌-◌, ◌^◌, ◌≤◌, ◌<◌, ◌≡◌, refl, Bool, false, ◌≢◌, List, [], ◌∷◌, length, take, drop, ltb, eqb}
+use Rattle.std.specs.Prelude.{ℕ, ◌+◌, ◌-◌, ◌^◌, ◌≤◌, ◌<◌, ◌≡◌, refl, Bool, false, ◌≢◌, List, [], ◌∷◌, length, take, drop, ltb, eqb, None, Option, Some}
 use Rattle.std.proofs.Common.{sym, ◌∙◌, ap, length-drop, take_all, drop-drop}
 use borrow.Author.Tests.{le-ltb, ne_eqb, ltb-false, eqb-true, eqb-false}
 use native.Mathlib.Omega.{arith}
@@ -18,13 +18,13 @@ use Rattle.answers.specs.declared.Answer.{Answer}
 use Rattle.names.specs.declared.component.Counted.{Counted}
 use Rattle.names.specs.Name.{counted}
 use Rattle.grammar.specs.Types.{interest, dat, meta_info as meta, fragment, lp_packet as lp, nack}
-use Rattle.grammar.specs.Table.{table, row_of, fits, four, outer}
+use Rattle.grammar.specs.declared.Rule.{Rule}
+use Rattle.grammar.specs.Table.{table, row_of, fits, outer}
 use Rattle.grammar.specs.declared.Row.{Row}
 use Rattle.grammar.specs.Walk.{Field, absent, here, Fields, walked}
 use Rattle.grammar.specs.Laws.Walk.{FieldIn, walked_in, field_bytes}
 use Rattle.grammar.specs.Laws.Table.{each_row}
 use Rattle.grammar.specs.Laws.Fits.{Fitting, Fit, walked_fits, ruled, fitting_rule}
-use Rattle.packethead.specs.declared.header.Nacked.{Nacked}
 use Rattle.packethead.specs.Header.{val, bytes_in, missing, whole_number, Bare, Came, bare, nacked_by, fragment_read, lp_fields, lp_read, outer_read, header_read}
 use Rattle.packethead.specs.Header as header
 use Rattle.packets.specs.Bare.{Reading, refused, asks, brings, nacks, asked_by, sized, named_interest, interest_read, named_data, data_read, data_value, data_unless, kind_read, bare_read}
@@ -35,18 +35,18 @@ use Rattle.packets.specs.Well.{Well}
 -- ---- what is read of a packet's elements
 
 -- a bare Interest is read by its elements
-pub bare_interest : (k : Nacked) (m : Bool) (l : List ℕ) {v : List ℕ} → element l ≡ elem 0x05 v [] → bare_read k m l ≡ interest_read k m (walked interest v)
+pub bare_interest : (k : Option ℕ) (m : Bool) (l : List ℕ) {v : List ℕ} → element l ≡ elem 0x05 v [] → bare_read k m l ≡ interest_read k m (walked interest v)
 unfolding bare_read
 bare_interest k m l e = rw e
 
 module _ (l : List ℕ) {v : List ℕ} (short : length l ≤ 1500) where
   -- an Interest is its own bare packet
-  pub header_interest : element l ≡ elem 0x05 v [] → header_read l ≡ bare (record { nack = Nacked.No; marked = false; bytes = l; left = 0 })
+  pub header_interest : element l ≡ elem 0x05 v [] → header_read l ≡ bare (record { nack = None; marked = false; bytes = l; left = 0 })
   unfolding header_read
   header_interest e = rw (le-ltb 1500 (length l) short, e)
 
   -- a Data is its own bare packet
-  pub header_data : element l ≡ elem 0x06 v [] → header_read l ≡ bare (record { nack = Nacked.No; marked = false; bytes = l; left = 0 })
+  pub header_data : element l ≡ elem 0x06 v [] → header_read l ≡ bare (record { nack = None; marked = false; bytes = l; left = 0 })
   unfolding header_read
   header_data e = rw (le-ltb 1500 (length l) short, e)
 
@@ -64,7 +64,7 @@ pub record Asking (f : Fields) : Type 0 where
   pub well : Well (bytes_in (val f 1))
 
 -- an Interest of such elements is read, with the Nack that brought it, if one did
-pub asking_read : (k : Nacked) (f : Fields) → Asking f → interest_read k false f ≡ asked_by k f
+pub asking_read : (k : Option ℕ) (f : Fields) → Asking f → interest_read k false f ≡ asked_by k f
 unfolding interest_read named_interest sized pick
 asking_read k f a =
     let w = a.well in
@@ -101,13 +101,13 @@ pub record IsData (m : Bool) (l : List ℕ) (f : Fields) : Type 0 where
   pub short : length (bytes_in (val f 1)) ≤ 255
 
 -- what each reading says of the bytes, of the Nack that they came with, and of whether their header has an element that is 6
-abbrev Made : Nacked → Bool → List ℕ → Reading → Type 0
+abbrev Made : Option ℕ → Bool → List ℕ → Reading → Type 0
 Made k m l (refused a) = Unit {0}
-Made k m l (asks f) = (k ≡ Nacked.No) × IsInterest m l f
-Made k m l (brings f g) = (k ≡ Nacked.No) × IsData m l f
-Made k m l (nacks n f) = (k ≡ Nacked.Reason n) × IsInterest m l f
+Made k m l (asks f) = (k ≡ None) × IsInterest m l f
+Made k m l (brings f g) = (k ≡ None) × IsData m l f
+Made k m l (nacks n f) = (k ≡ Some n) × IsInterest m l f
 
-module _ (k : Nacked) (m : Bool) (l v : List ℕ) (f : Fields) where
+module _ (k : Option ℕ) (m : Bool) (l v : List ℕ) (f : Fields) where
   -- of an Interest whose elements are there, by what its name says
   named_interest_made : element l ≡ elem 0x05 v [] → f ≡ walked interest v
       → is_malformed f.said ≡ false → missing (val f 1) ≡ false → missing (val f 5) ≡ false
@@ -141,9 +141,9 @@ module _ (k : Nacked) (m : Bool) (l v : List ℕ) (f : Fields) where
         };
       }))))))))
     where
-      by : (k : Nacked) → IsInterest m l f → Made k m l (asked_by k f)
-      by Nacked.No a = unfold asked_by in (refl, a)
-      by (Nacked.Reason n) a = unfold asked_by in (refl, a)
+      by : (k : Option ℕ) → IsInterest m l f → Made k m l (asked_by k f)
+      by None a = unfold asked_by in (refl, a)
+      by (Some n) a = unfold asked_by in (refl, a)
 
   -- of an Interest
   interest_made : element l ≡ elem 0x05 v [] → f ≡ walked interest v → Made k m l (interest_read k m f)
@@ -155,7 +155,7 @@ module _ (k : Nacked) (m : Bool) (l v : List ℕ) (f : Fields) where
       (λ c. named_interest_made i w a b c)))
 
   -- of a Data whose elements are there, by what its name says
-  named_data_made : k ≡ Nacked.No → element l ≡ elem 0x06 v [] → f ≡ walked dat v → is_malformed f.said ≡ false → missing (val f 1) ≡ false
+  named_data_made : k ≡ None → element l ≡ elem 0x06 v [] → f ≡ walked dat v → is_malformed f.said ≡ false → missing (val f 1) ≡ false
       → (g : Fields) (c : Counted) → Made k m l (named_data m f g c)
   unfolding named_data sized
   named_data_made z i w a b g c =
@@ -167,7 +167,7 @@ module _ (k : Nacked) (m : Bool) (l v : List ℕ) (f : Fields) where
       (λ y. (z, record { value = v; is = i; fields = w; unmarked = u; fine = a; name = b; short = ltb-false 255 (length (bytes_in (val f 1))) x }))))))
 
   -- of a Data
-  data_made : k ≡ Nacked.No → element l ≡ elem 0x06 v [] → f ≡ walked dat v → (g : Fields) → Made k m l (data_read m f g)
+  data_made : k ≡ None → element l ≡ elem 0x06 v [] → f ≡ walked dat v → (g : Fields) → Made k m l (data_read m f g)
   unfolding data_read
   data_made z i w g =
       pick_ind (Made k m l) (is_malformed f.said) _ _ (λ _. tt)
@@ -178,10 +178,10 @@ module _ (k : Nacked) (m : Bool) (l v : List ℕ) (f : Fields) where
       (λ e. named_data_made z i w a b g (counted (bytes_in (val f 1))))))))
 
 -- of a Data, which comes with no Nack
-unless_made : (k : Nacked) (m : Bool) (l v : List ℕ) → element l ≡ elem 0x06 v [] → Made k m l (data_unless k (data_value m v))
+unless_made : (k : Option ℕ) (m : Bool) (l v : List ℕ) → element l ≡ elem 0x06 v [] → Made k m l (data_unless k (data_value m v))
 unfolding data_unless data_value
-unless_made Nacked.No m l v i = data_made Nacked.No m l v (walked dat v) refl i refl (walked meta (bytes_in (val (walked dat v) 2)))
-unless_made (Nacked.Reason n) m l v i = tt
+unless_made None m l v i = data_made None m l v (walked dat v) refl i refl (walked meta (bytes_in (val (walked dat v) 2)))
+unless_made (Some n) m l v i = tt
 
 -- of the types that stand in a Fragment, 5 has order 1 and 6 has order 2
 fragment_type : (t : ℕ) → ((row_of fragment t table).order ≡ 1 → t ≡ 0x05) × ((row_of fragment t table).order ≡ 2 → t ≡ 0x06)
@@ -200,7 +200,7 @@ none_left [] h = refl
 none_left (b ∷ l) h = absurd (omega arith)
 
 -- of the one element of a bare packet
-kind_made : (k : Nacked) (m : Bool) (l : List ℕ) (t : ℕ) (v : List ℕ) → element l ≡ elem t v [] → Made k m l (kind_read k m t v)
+kind_made : (k : Option ℕ) (m : Bool) (l : List ℕ) (t : ℕ) (v : List ℕ) → element l ≡ elem t v [] → Made k m l (kind_read k m t v)
 unfolding kind_read
 kind_made k m l t v e =
     let o : ℕ = (row_of fragment t table).order in
@@ -211,7 +211,7 @@ kind_made k m l t v e =
     (λ _. tt))
 
 -- of any bytes
-made : (k : Nacked) (m : Bool) (l : List ℕ) → Made k m l (bare_read k m l)
+made : (k : Option ℕ) (m : Bool) (l : List ℕ) → Made k m l (bare_read k m l)
 unfolding bare_read
 made k m l = go (element l) refl
   where
@@ -222,17 +222,17 @@ made k m l = go (element l) refl
         pick_ind (Made k m l) (ltb 0 (length r)) _ _ (λ _. tt)
         (λ h. let z : r ≡ [] = none_left r (ltb-false 0 (length r) h) in kind_made k m l t v (rw z at e))
 
-module _ (k : Nacked) (m : Bool) (l : List ℕ) where
+module _ (k : Option ℕ) (m : Bool) (l : List ℕ) where
   -- what is read as an Interest is one, and came with no Nack
-  pub asks_made : {f : Fields} → bare_read k m l ≡ asks f → (k ≡ Nacked.No) × IsInterest m l f
+  pub asks_made : {f : Fields} → bare_read k m l ≡ asks f → (k ≡ None) × IsInterest m l f
   asks_made e = rw e at (made k m l)
 
   -- what is read as a Data is one, and came with no Nack
-  pub brings_made : {f g : Fields} → bare_read k m l ≡ brings f g → (k ≡ Nacked.No) × IsData m l f
+  pub brings_made : {f g : Fields} → bare_read k m l ≡ brings f g → (k ≡ None) × IsData m l f
   brings_made e = rw e at (made k m l)
 
   -- what is read as a Nack is an Interest that came with one
-  pub nacks_made : {n : ℕ} {f : Fields} → bare_read k m l ≡ nacks n f → (k ≡ Nacked.Reason n) × IsInterest m l f
+  pub nacks_made : {n : ℕ} {f : Fields} → bare_read k m l ≡ nacks n f → (k ≡ Some n) × IsInterest m l f
   nacks_made e = rw e at (made k m l)
 
 -- ---- the header
@@ -263,7 +263,7 @@ Stands l (header.refused a) = Unit {0}
 Stands l (bare b) = BareIn l b
 
 -- that of a Fragment
-fragment_in : (l : List ℕ) (x : Field) (k : Nacked) (m : Bool) → length l ≤ 1500 → FieldIn l x → Stands l (fragment_read x k m)
+fragment_in : (l : List ℕ) (x : Field) (k : Option ℕ) (m : Bool) → length l ≤ 1500 → FieldIn l x → Stands l (fragment_read x k m)
 unfolding fragment_read
 fragment_in l absent k m s h = tt
 fragment_in l (here w j) k m s h = record { short = s; fits = omega (arith, h.fits refl); value = h.value refl }
@@ -283,7 +283,7 @@ lp_in l t v s e =
     fields_in l (walked lp v) (walked nack (bytes_in (val (walked lp v) 1))) s (last_in l e (walked_in lp v 2))
 
 -- of a packet that is bare
-whole_in : (l : List ℕ) → length l ≤ 1500 → Stands l (bare (record { nack = Nacked.No; marked = false; bytes = l; left = 0 }))
+whole_in : (l : List ℕ) → length l ≤ 1500 → Stands l (bare (record { nack = None; marked = false; bytes = l; left = 0 }))
 whole_in l s =
     let z : length l - 0 - length l ≡ 0 = omega arith in
     record { short = s; fits = omega arith; value = rw z (sym (take_all (length l) l (omega arith))) }
@@ -330,7 +330,7 @@ unfolding came_means
 heard_bare_lem l e = heard_is l ∙ ap came_means e
 
 -- what a bare packet means, by its elements
-pub bare_means : (k : Nacked) (m : Bool) (l : List ℕ) → heard_bare k m l ≡ meant l (bare_read k m l)
+pub bare_means : (k : Option ℕ) (m : Bool) (l : List ℕ) → heard_bare k m l ≡ meant l (bare_read k m l)
 unfolding heard_bare
 bare_means k m l = refl
 
@@ -340,15 +340,15 @@ pub asking_heard : (l v : List ℕ) → length l ≤ 1500 → element l ≡ elem
 unfolding asked_by meant
 asking_heard l v h e a =
     heard_bare_lem l (header_interest l h e)
-    ∙ bare_means Nacked.No false l
-    ∙ ap (meant l) (bare_interest Nacked.No false l e ∙ asking_read Nacked.No (walked interest v) a)
+    ∙ bare_means None false l
+    ∙ ap (meant l) (bare_interest None false l e ∙ asking_read None (walked interest v) a)
 
 -- ---- the nonce
 
 -- a Nonce is four bytes
 nonce_four : (v : List ℕ) → Fitting interest 5 v → length v ≡ 4
 unfolding fits pick
-nonce_four v f = eqb-true (length v) 4 (fitting_rule interest 5 four v (unfold table each_row ruled in refl) (omega arith) f)
+nonce_four v f = eqb-true (length v) 4 (fitting_rule interest 5 Rule.Four v (unfold table each_row ruled in refl) (omega arith) f)
 
 -- four bytes make a number below 2 ^ 32
 whole_four : (v : List ℕ) → Bytes v → length v ≡ 4 → whole_number v < 2 ^ 32

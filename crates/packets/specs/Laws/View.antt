@@ -1,7 +1,7 @@
 -- What the code's places point at is what the packet means: the bytes at a name's place are the name, and the byte at a HopLimit's place is
 -- the limit.
 -- Assumes nothing.
-use Rattle.std.specs.Prelude.{ℕ, ◌+◌, ◌-◌, ◌≤◌, ◌<◌, Bool, List, [], ◌∷◌, drop}
+use Rattle.std.specs.Prelude.{ℕ, ◌+◌, ◌-◌, ◌≤◌, ◌<◌, Bool, List, [], ◌∷◌, drop, Option, Some}
 use Rattle.std.proofs.Math.Path.{◌≡◌, refl, sym, ap}
 use Rattle.std.proofs.Common.{◌∙◌, get_or-take, get_or-drop, eqb-true, zero-add, add-zero, arith}
 use Rattle.std.proofs.Math.Option.{some}
@@ -10,14 +10,14 @@ use Rattle.laws.specs.Pick.{pick}
 use Rattle.wire.specs.Number.{big, is_whole}
 use Rattle.grammar.specs.declared.Place.{Place}
 use Rattle.grammar.specs.Types.{interest, dat}
-use Rattle.grammar.specs.Table.{table, fits, one}
+use Rattle.grammar.specs.declared.Rule.{Rule}
+use Rattle.grammar.specs.Table.{table, fits}
 use Rattle.grammar.specs.Laws.Table.{each_row}
 use Rattle.grammar.specs.Laws.Fits.{Fitting, Fit, walked_fits, ruled, fitting_rule}
 use Rattle.grammar.specs.Walk.{Field, absent, here, Fields}
 use Rattle.grammar.specs.Places.Walk.{place_in}
 use Rattle.grammar.specs.Laws.Walk.{FieldIn, walked_in, place_inside}
-use Rattle.packethead.specs.declared.header.Nacked.{Nacked}
-use Rattle.packets.specs.declared.bare.Hop.{Hop}
+use Rattle.packets.specs.declared.bare.HopLimit.{HopLimit}
 use Rattle.packethead.specs.Header.{val, bytes_in, whole_number}
 use Rattle.packethead.specs.Places.Header.{part_at}
 use Rattle.packets.specs.Bare.{Reading, bare_read}
@@ -49,7 +49,7 @@ whole_one (b ∷ c ∷ w) n = absurd (omega arith)
 -- a HopLimit is one byte
 hop_one : (w : List ℕ) → Fitting interest 7 w → length w ≡ 1
 unfolding fits pick
-hop_one w f = eqb-true (length w) 1 (fitting_rule interest 7 one w (unfold table each_row ruled in refl) (omega arith) f)
+hop_one w f = eqb-true (length w) 1 (fitting_rule interest 7 Rule.One w (unfold table each_row ruled in refl) (omega arith) f)
 
 -- n is the byte at a place of l, which lies within l
 pub record ByteAt (l : List ℕ) (at n : ℕ) : Type 0 where
@@ -71,14 +71,13 @@ first_byte l w k h n =
 
 module _ (l : List ℕ) where
   -- the limit of a HopLimit is the byte at its place
-  hop_byte : (x : Field) → FieldIn l x → Fit interest 7 x → {n at : ℕ} → hop_in (length l) x ≡ Hop.Limit n at → ByteAt l at n
+  hop_byte : (x : Field) → FieldIn l x → Fit interest 7 x → {q : HopLimit} → hop_in (length l) x ≡ Some q → ByteAt l q.at q.limit
   unfolding hop_in
-  hop_byte absent h f e = absurd (let z : ◌≡◌ {A = ℕ} 0 1 = cc in omega arith)
-  hop_byte (here w k) h f {n} {at} e =
+  hop_byte absent h f e = cc
+  hop_byte (here w k) h f {q} e =
       let o : length w ≡ 1 = hop_one w f in
-      let a : length l - k - length w ≡ at = cc in
-      let b : get_or w 0 0 ≡ n = sym (whole_one w o) ∙ (cc) in
-      rw (← a, ← b) (first_byte l w k h (omega arith))
+      let d : q ≡ record { limit = whole_number w; at = length l - k - length w } = cc in
+      rw (d, whole_one w o) (first_byte l w k h (omega arith))
 
   -- so that what is seen at its place is the HopLimit
   hop_seen_lem : (x : Field) → FieldIn l x → Fit interest 7 x → hop_seen l (hop_in (length l) x) ≡ hop_of x
@@ -101,7 +100,7 @@ module _ {m : Bool} {l : List ℕ} {f : Fields} (i : IsInterest m l f) where
   interest_name_at = field_at (interest_in_lem 1)
 
   -- the byte at its HopLimit's place is the limit
-  interest_hop_at : {n at : ℕ} → (interest_in (length l) f).hop ≡ Hop.Limit n at → ByteAt l at n
+  interest_hop_at : {q : HopLimit} → (interest_in (length l) f).hop ≡ Some q → ByteAt l q.at q.limit
   unfolding interest_in
   interest_hop_at e = hop_byte l (val f 7) (interest_in_lem 7) interest_fits e
 
@@ -122,7 +121,7 @@ unfolding lowered hop_in leaving
 lowered_leaves l absent = refl
 lowered_leaves l (here v k) = refl
 
-module _ (k : Nacked) (m : Bool) (l : List ℕ) where
+module _ (k : Option ℕ) (m : Bool) (l : List ℕ) where
   -- the bytes at the place of the name of an Interest that is read are its name
   pub asks_name_at : {f : Fields} → bare_read k m l ≡ bare.asks f → BytesAt l (interest_in (length l) f).name (ask_of f).name
   asks_name_at e = interest_name_at (asks_made k m l e).1
@@ -137,13 +136,13 @@ module _ (k : Nacked) (m : Bool) (l : List ℕ) where
   brings_name_at e = data_name_at (brings_made k m l e).1
 
   -- the byte at the place of the HopLimit of an Interest that is read is the limit
-  pub asks_hop_at : {f : Fields} {n at : ℕ} → bare_read k m l ≡ bare.asks f
-      → (interest_in (length l) f).hop ≡ Hop.Limit n at → ByteAt l at n
+  pub asks_hop_at : {f : Fields} {q : HopLimit} → bare_read k m l ≡ bare.asks f
+      → (interest_in (length l) f).hop ≡ Some q → ByteAt l q.at q.limit
   asks_hop_at e = interest_hop_at (asks_made k m l e).1
 
   -- and that of one that a Nack brings
-  pub nacks_hop_at : {r : ℕ} {f : Fields} {n at : ℕ} → bare_read k m l ≡ bare.nacks r f
-      → (interest_in (length l) f).hop ≡ Hop.Limit n at → ByteAt l at n
+  pub nacks_hop_at : {r : ℕ} {f : Fields} {q : HopLimit} → bare_read k m l ≡ bare.nacks r f
+      → (interest_in (length l) f).hop ≡ Some q → ByteAt l q.at q.limit
   nacks_hop_at e = interest_hop_at (nacks_made k m l e).1
 
   -- what is seen of the code's answer is what the packet means

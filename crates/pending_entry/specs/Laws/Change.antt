@@ -1,6 +1,7 @@
 -- How the view of an entry follows its head and its records, for any number n of faces.
 -- Assumes nothing.
-use Rattle.std.specs.Prelude.{ℕ, zero, suc, ◌+◌, ◌-◌, ◌≤◌, ◌<◌, ◌≡◌, Bool, ◌&&◌, ◌||◌, not, List, [], ◌∷◌, length, take}
+use Rattle.std.specs.declared.option.Option as code
+use Rattle.std.specs.Prelude.{ℕ, zero, suc, ◌+◌, ◌-◌, ◌≤◌, ◌<◌, ◌≡◌, Bool, ◌&&◌, ◌||◌, not, List, [], ◌∷◌, length, take, Some, None}
 use Rattle.std.proofs.Math.Path.{refl, ap, sym}
 use Rattle.std.proofs.Common.{◌∙◌, arith, eqb-true, ne_eqb}
 use Rattle.std.proofs.Math.Bool.{true, false}
@@ -277,13 +278,14 @@ module _ (n : ℕ) (nm head : List ℕ) (recs : List (List ℕ)) where
   view_unsent s = where_ext n _ _ (λ f q. rw (view_sent n nm head recs, slots_some n _ _ f q))
 
 -- answers that tell the same request are the same
-pub asked_same : (x y : Asked) → request_in x ≡ request_in y → x ≡ y
+pub asked_same : (x y : code.Option Asked) → request_in x ≡ request_in y → x ≡ y
 unfolding request_in
-asked_same Asked.None Asked.None e = refl
-asked_same Asked.None (Asked.Is k t) e = cc
-asked_same (Asked.Is k t) Asked.None e = cc
-asked_same (Asked.Is k t) (Asked.Is j u) e =
-    let q = some-injective (record { nonce = k; expiry = t }) (record { nonce = j; expiry = u }) e in
-    let a : k ≡ j = ap (λ (r : Request). r.nonce) q in
-    let b : t ≡ u = ap (λ (r : Request). r.expiry) q in
-    rw (a, b)
+asked_same None None e = refl
+asked_same None (Some b) e = cc
+asked_same (Some a) None e = cc
+asked_same (Some a) (Some b) e =
+    let q = some-injective (record { nonce = a.nonce; expiry = a.expiry }) (record { nonce = b.nonce; expiry = b.expiry }) e in
+    let n : a.nonce ≡ b.nonce = ap (λ (r : Request). r.nonce) q in
+    let x : a.expiry ≡ b.expiry = ap (λ (r : Request). r.expiry) q in
+    let s : a ≡ b = rw (n, x) in
+    ap (λ (r : Asked). Some r) s

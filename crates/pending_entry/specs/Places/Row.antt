@@ -1,4 +1,4 @@
--- What a face's row means, and a row and a head with something changed, as the code writes them.
+-- What a face's row means, and a row and a head with something changed.
 -- Assumes nothing.
 use Rattle.std.specs.Prelude.{ℕ, List, [], ◌∷◌, get_or}
 use Rattle.records.specs.Entry.{Request, Sent}

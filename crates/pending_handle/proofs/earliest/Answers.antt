@@ -1,18 +1,6 @@
--- What the row says; without an entry what is said of none.
-use native.Mathlib.Omega.{arith}
-use Rattle.sizes.specs.Sizes.{most_faces}
-use Rattle.pending_table.specs.Places.View.{row_at, said_of, said_none}
+-- What the row says is said of the entry, whatever its name.
+use Rattle.pending_table.specs.Laws.Held.{row_tells}
 use Rattle.pending_handle.proofs.earliest.Goals as goal
 
-pub returns-then-row-lt-ENTRIES : goal.returns-then-row-lt-ENTRIES
-unfolding row_at
-returns-then-row-lt-ENTRIES c =
-    let a = c.args in
-    said_of most_faces a.names.now a.heads.now a.recs.now a.numbers.now a.s a.h _
-    c.row_of-row.ensures _ _ (omega arith) (c.earliest.ensures _)
-
-pub returns : goal.returns
-returns c =
-    let a = c.args in
-    said_none most_faces a.names.now a.heads.now a.recs.now a.numbers.now a.s a.h _ c.row_of-row.ensures _ _
-    (omega arith)
+pub returns-in-Some : goal.returns-in-Some
+returns-in-Some c = row_tells c.args.p.now c.args.h c.row_of.ensures.row c.in-Some.is _ _ c.earliest.ensures

@@ -1,47 +1,37 @@
 -- The loop's invariant: of the rows that are not left those stay that ageing concerns.
-use native.Mathlib.Omega.{arith}
 use Prim.Native.Nat.{ℕ}
 use mathlib.Core.Bool.{Bool}
 use mathlib.Core.Path.{◌∙◌}
 use mathlib.Core.List.{[]}
 use lib.ListN.{get_or}
-use lib.Count.{trailing_le}
 use Rattle.laws.specs.Laws.Digits.{lowest}
 use Rattle.sizes.specs.Sizes.{most_faces, most_entries}
-use Rattle.pending_order.specs.Laws.Walk.{digit_less}
 use Rattle.pending_order.specs.Laws.Choose.{choosing_start, choosing_turn, choosing_end}
-use Rattle.pending_table.specs.Places.View.{row_at, marks_where}
+use Rattle.pending_table.specs.Places.View.{state, row_at, marks_where}
 use Rattle.pending_handle.specs.Operations.{is_due}
 use Rattle.pending_handle.proofs.overdue_entries.Goals as goal
 
-pub overflow_cast-row : goal.overflow_cast-row
-overflow_cast-row c = omega (arith, trailing_le 64 c.args.s.used)
-
 pub loop-row-init : goal.loop-row-init
-loop-row-init c = choosing_start most_entries _ _ _ (lowest most_entries _)
-
-pub overflow_cast-row-in-loop-row : goal.overflow_cast-row-in-loop-row
-overflow_cast-row-in-loop-row c = omega (arith, trailing_le 64 c.remove-left.result)
-
-pub loop-row-smaller : goal.loop-row-smaller
-loop-row-smaller c =
-    let l = c.loop-row in
-    rw c.remove-left.ensures (digit_less most_entries l.left l.row l.invariant.at (omega arith))
+loop-row-init c =
+    rw (c.into_iter-row-iterator.ensures.into_iter_gives, c.of-row-items.ensures)
+    (choosing_start most_entries _ _ _ (lowest most_entries _))
 
 pub loop-row-preserved : goal.loop-row-preserved
 unfolding row_at
 loop-row-preserved c =
-    let a = c.args in
+    let p = c.args.p.now in
     let l = c.loop-row in
-    let q : (ℕ → Bool) = (λ i. is_due a.time (row_at most_faces a.names.now a.heads.now a.recs.now i)) in
-    rw c.remove-left.ensures
-    (choosing_turn most_entries q a.s.used l.left l.rows l.row _ _ l.invariant (omega arith) (lowest most_entries _)
-    (c.kept-rows.ensures ∙ rw (c.is_due.ensures (get_or a.names.now l.row []))))
+    let q : (ℕ → Bool) = (λ i. is_due c.args.time (row_at most_faces p.names p.heads p.recs i)) in
+    let g = c.in-Some.ensures.steps in
+    let row = c.in-Some.row in
+    rw g.2
+    (choosing_turn most_entries q p.used l.row-iterator.left l.rows row _ _ (rw (← g.1) at l.invariant) g.0 (lowest most_entries _)
+    (c.kept-rows.ensures ∙ rw (c.is_due.ensures (get_or p.names row []))))
 
 pub returns : goal.returns
 returns c =
-    let a = c.args in
+    let p = c.args.p.now in
     let l = c.loop-row in
-    let q : (ℕ → Bool) = (λ i. is_due a.time (row_at most_faces a.names.now a.heads.now a.recs.now i)) in
-    marks_where most_faces a.names.now a.heads.now a.recs.now a.numbers.now a.s _ (is_due a.time)
-    (choosing_end most_entries q a.s.used l.left l.rows l.row l.invariant (omega arith))
+    let q : (ℕ → Bool) = (λ i. is_due c.args.time (row_at most_faces p.names p.heads p.recs i)) in
+    marks_where most_faces p.names p.heads p.recs p.numbers (state p) _ (is_due c.args.time)
+    (choosing_end most_entries q p.used l.row-iterator.left l.rows _ l.invariant c.in-None.ensures.steps.0)

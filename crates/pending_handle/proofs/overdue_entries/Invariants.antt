@@ -1,5 +1,6 @@
 -- The loop's invariant: of the rows that are not left those stay that ageing concerns.
 use Rattle.sizes.specs.Sizes.{most_faces, most_entries}
+use Rattle.pending_order.specs.Places.Gives.{lowest_row}
 use Rattle.pending_order.specs.Laws.Choose.{Choosing}
 use Rattle.pending_table.specs.Places.View.{row_at}
 use Rattle.pending_handle.specs.Operations.{is_due}
@@ -7,7 +8,6 @@ use Rattle.pending_handle.proofs.overdue_entries.Given as goal
 
 abbrev pub invariant-loop-row : goal.invariant-loop-row
 invariant-loop-row l =
-    Choosing most_entries (λ i. is_due l.time (row_at most_faces l.names l.heads l.recs i)) l.initial.left l.left l.rows l.row
-
-abbrev pub decreases-loop-row : goal.decreases-loop-row
-decreases-loop-row l = l.left
+    let p = l.p in
+    let left = l.row-iterator.left in
+    Choosing most_entries (λ i. is_due l.time (row_at most_faces p.names p.heads p.recs i)) p.used left l.rows (lowest_row left)

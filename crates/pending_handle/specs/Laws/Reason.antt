@@ -13,7 +13,7 @@ use Rattle.faces.specs.Slots.{slots_of}
 use Rattle.pending_entry.specs.Places.View as entry
 use Rattle.pending_entry.specs.Places.View.{nack_word, sent_at}
 use Rattle.pending_entry.specs.Laws.Change.{reason_most}
-use Rattle.pending_table.specs.declared.Pending.{Pending}
+use Rattle.pending_table.specs.Places.View.{State}
 use Rattle.pending_table.specs.Places.View.{view_for, row_at, view_each}
 
 -- what a Nack word says is at most 150
@@ -41,7 +41,7 @@ smallest_most r v h f i (suc m) = go (r i) (smallest_most r v h (suc f) (suc i) 
     go false y = y
 
 -- the reason that goes on for an entry is at most 150
-pub view_reason : (n : ℕ) (names heads : List (List ℕ)) (recs : List (List (List ℕ))) (numbers : List ℕ) (s : Pending) (i : ℕ) (e : Entry)
+pub view_reason : (n : ℕ) (names heads : List (List ℕ)) (recs : List (List (List ℕ))) (numbers : List ℕ) (s : State) (i : ℕ) (e : Entry)
     → at_place i (view_for n names heads recs numbers s) ≡ some e → smallest_reason (held e.sent) ≤ 150
 unfolding row_at held slots_of sent_at
 view_reason n names heads recs numbers s =

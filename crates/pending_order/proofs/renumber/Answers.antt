@@ -2,16 +2,11 @@
 use native.Mathlib.Omega.{arith}
 use Rattle.sizes.specs.Sizes.{most_entries}
 use Rattle.pending_order.specs.Laws.Table.{rows_here}
-use Rattle.pending_order.specs.Laws.Walk.{numbering_start, numbering_room, numbering_turn, numbering_end, removed_less}
+use Rattle.pending_order.specs.Laws.Walk.{numbering_start, numbering_turn, numbering_end, removed_less}
 use Rattle.pending_order.proofs.renumber.Goals as goal
 
 pub loop-row-init : goal.loop-row-init
 loop-row-init c = numbering_start most_entries _ _ _ c.least-row.ensures
-
-pub overflow_add-next : goal.overflow_add-next
-overflow_add-next c =
-    let l = c.loop-row in
-    omega (arith, numbering_room most_entries _ _ _ _ _ _ l.invariant (omega arith))
 
 pub loop-row-smaller : goal.loop-row-smaller
 loop-row-smaller c =

@@ -1,10 +1,11 @@
 -- The lowest row that is not used, and a row opened there.
 -- Assumes nothing.
-use Rattle.std.specs.Prelude.{ℕ, zero, suc, ◌+◌, ◌-◌, ◌/◌, ◌^◌, ◌≤◌, ◌<◌, ◌≡◌, refl, Bool, true, false, List, [], ◌∷◌, ◌++◌, ltb, length, get_or, set}
+use Rattle.std.specs.Prelude.{ℕ, zero, suc, ◌+◌, ◌-◌, ◌/◌, ◌^◌, ◌≤◌, ◌<◌, ◌≡◌, refl, Bool, true, false, List, [], ◌∷◌, ◌++◌, ltb, length, get_or, set, None, Option, Some}
+use Rattle.std.specs.Option.{SomeIff}
 use Rattle.std.proofs.Common.{sym, ap, ◌∙◌, arith}
 use Rattle.std.proofs.Math.Bool.{not}
 use Rattle.std.specs.Int.Count.{count_trailing_zeros}
-use borrow.Author.Tests.{not-true, not-false, ltb-true, ltb-false}
+use borrow.Author.Tests.{not-true, not-false, ltb-true, ltb-false, lt-ltb, le-ltb}
 use Rattle.laws.specs.Digits.{digit, member, added}
 use Rattle.laws.specs.Laws.Digits.{member_yes, member_no, lowest, lowest_one, tally, tally_ext}
 use Rattle.laws.specs.Laws.Pick.{pick_yes}
@@ -15,7 +16,6 @@ use Rattle.pending_order.specs.Laws.Walk.{rows_most}
 use Rattle.pending_order.specs.Order.{rows_of}
 use Rattle.pending_order.specs.Laws.Rows.{ordered_length}
 use Rattle.pending_order.specs.Places.Rows.{next_in, above_of, numbered, free_of, Fresh, Opens}
-use Rattle.pending_order.specs.declared.Next.{Next}
 
 -- a digit of what is missing to 2 ^ n - 1 is the other digit
 digit_not : (f n s : ℕ) → f < n → s < 2 ^ n → digit f (2 ^ n - 1 - s) + digit f s ≡ 1
@@ -71,14 +71,20 @@ rows_full n numbers used h =
     ∙ tally_ext n _ (λ _. 1) (λ t l. pick_yes _ 1 0 (free_none n used h t l)) ∙ tally_ones n
 
 -- the number that is next, where it fits
-pub fresh_next : (n : ℕ) (numbers : List ℕ) (used number : ℕ) → Next.Is number ≡ next_in (above_of n numbers used)
+pub fresh_next : (n : ℕ) (numbers : List ℕ) (used number : ℕ) → Some number ≡ next_in (above_of n numbers used)
     → Fresh n numbers numbers used number
 unfolding next_in pick
 fresh_next n numbers used number e = record { same = refl; above = go (ltb (above_of n numbers used) (2 ^ 64)) e }
   where
-    go : (b : Bool) → Next.Is number ≡ pick b (Next.Is (above_of n numbers used)) Next.Full → above_of n numbers used ≤ number
+    go : (b : Bool) → Some number ≡ pick b (Some (above_of n numbers used)) None → above_of n numbers used ≤ number
     go true q = let z : number ≡ above_of n numbers used = cc in omega arith
     go false q = absurd (let z : ◌≡◌ {A = ℕ} 0 1 = cc in omega arith)
+
+-- a number that is told exactly where it fits a word is the one that is next
+pub next_some : (x : Option ℕ) (v m : ℕ) → SomeIff x (v < 2 ^ 64) v → v ≡ m → x ≡ next_in m
+unfolding next_in pick
+next_some None v m s e = rw (← e, le-ltb v (2 ^ 64) (omega arith))
+next_some (Some n) v m s e = rw (← e, lt-ltb v (2 ^ 64) s.0, s.1)
 
 -- rows that are numbered anew have n above them
 pub fresh_renumbered : (n : ℕ) (numbers : List ℕ) (used : ℕ) → n ≤ length numbers

@@ -1,16 +1,17 @@
 -- The walk over the digits of a word that finds the row opened first, or the largest number; walks over rows in the order of opening.
 -- Assumes nothing.
-use Rattle.std.specs.Prelude.{ℕ, suc, ◌+◌, ◌≤◌, ◌<◌, max, ◌≡◌, refl, Bool, true, false, ◌&&◌, List, ◌≢◌, ltb, set}
+use Rattle.std.specs.Prelude.{ℕ, suc, ◌+◌, ◌≤◌, ◌<◌, ◌^◌, max, ◌≡◌, refl, Bool, true, false, ◌&&◌, List, ◌≢◌, ltb, set}
 use Rattle.std.proofs.Common.{sym, ◌∙◌, ⊎_elim, eq-or-lt_of_le, pow_pos}
 use Rattle.std.proofs.Math.Path.{ap}
 use Rattle.std.proofs.Math.Bool.{true≢false}
 use Rattle.std.proofs.Math.ListN.{length, get_or}
 use Rattle.std.proofs.Math.Seq.{get_or-set_other}
+use lib.Pow.{pow_mono}
 use borrow.Author.Tests.{ltb-true, ltb-false, lt-ltb}
 use Rattle.std.proofs.Math.Numerals.{add-one}
 use native.Mathlib.Omega.{arith}
 use Rattle.laws.specs.Digits.{member, removed}
-use Rattle.laws.specs.Laws.Digits.{Lowest, member_yes, member_no, member_remove_same, member_remove_other, removed_present, digit_pow_le}
+use Rattle.laws.specs.Laws.Digits.{Lowest, member_yes, member_no, member_remove_same, member_remove_other, removed_present, digit_pow_le, digit_high, digit_zero, digits_ext}
 use Rattle.laws.specs.Laws.Loop.{and_both}
 use Rattle.laws.specs.Laws.Pick.{pick_ind, pick_yes}
 use Rattle.pending_order.specs.Laws.Number.{above_at, above_next, above_le}
@@ -40,6 +41,26 @@ before_same w s = go (before w s s) refl
 -- without a member a word is smaller
 pub removed_less : (s left : ℕ) → member s left ≡ true → removed s left < left
 removed_less s left m = rw (removed_present s left m) (omega (arith, pow_pos s, digit_pow_le s left ((member_yes s left).0 m)))
+
+-- the members of a word of n digits are below n
+pub member_within : (n s set : ℕ) → set < 2 ^ n → member s set ≡ true → s < n
+member_within n s set h m = go (ltb s n) refl
+  where
+    go : (b : Bool) → ltb s n ≡ b → s < n
+    go true e = ltb-true s n e
+    go false e =
+        let l : n ≤ s = ltb-false s n e in
+        absurd (true≢false (sym m ∙ (member_no s set).1 (digit_high s set (omega (arith, pow_mono {i = n} {j = s} l)))))
+
+-- a word of n digits that is not 0 has a member
+pub lowest_within : (n set s : ℕ) → set < 2 ^ n → set ≢ 0 → Lowest n set s → s < n
+lowest_within n set s h z e = go (ltb s n) refl
+  where
+    go : (b : Bool) → ltb s n ≡ b → s < n
+    go true q = ltb-true s n q
+    go false q =
+        let l : n ≤ s = ltb-false s n q in
+        absurd (z (digits_ext n set 0 h (pow_pos n) (λ f k. e.below f (omega arith) ∙ sym (digit_zero f))))
 
 -- a walk over the digits of a word is at s, the lowest that is left
 module _ (n left s : ℕ) (a : Lowest n left s) where
@@ -176,6 +197,10 @@ module _ (n : ℕ) (numbers : List ℕ) (used : ℕ) where
       let k = above_le (λ t. get_or numbers t 0) (λ t. member t left) n 0
       (λ t l m. absurd (true≢false (sym m ∙ (member_no t left).1 (e.below t (omega arith))))) in
       omega arith
+
+  -- of no rows no number is
+  pub above_empty : above_of n numbers 0 ≡ 0
+  above_empty = above_none 0 n (record { within = omega arith; below = λ f _. digit_zero f; here = λ l. absurd (omega arith) }) (omega arith)
 
   -- at the end
   pub largest_end : (left most s : ℕ) → Largest n numbers used left most s → n ≤ s → max 1 (above_of n numbers used) ≡ suc most

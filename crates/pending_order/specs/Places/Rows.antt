@@ -1,11 +1,10 @@
 -- What the code finds among the rows: the first, the largest number, a free row; rows numbered anew, and a row opened.
 -- Assumes nothing.
-use Rattle.std.specs.Prelude.{ℕ, zero, suc, ◌^◌, ◌≤◌, ◌<◌, max, ◌≡◌, Bool, not, List, [], ◌∷◌, ◌++◌, ltb, get_or, set}
+use Rattle.std.specs.Prelude.{ℕ, zero, suc, ◌^◌, ◌≤◌, ◌<◌, max, ◌≡◌, Bool, not, List, [], ◌∷◌, ◌++◌, ltb, get_or, set, None, Option, Some}
 use Rattle.laws.specs.Pick.{pick}
 use Rattle.laws.specs.Lists.{index_of}
 use Rattle.laws.specs.Digits.{member, added}
 use Rattle.laws.specs.Places.Loop.{first}
-use Rattle.pending_order.specs.declared.Next.{Next}
 use Rattle.pending_order.specs.Order.{ordered, rows_of}
 
 -- the first of the rows that p holds of, n where there is none
@@ -44,8 +43,8 @@ better n numbers best s =
     pick (ltb s n) (pick (ltb best n) (pick (ltb (get_or numbers s 0) (get_or numbers best 0)) s best) s) best
 
 -- a number for a row, if it fits a word
-unfoldable pub next_in : ℕ → Next
-next_in x = pick (ltb x (2 ^ 64)) (Next.Is x) Next.Full
+unfoldable pub next_in : ℕ → Option ℕ
+next_in x = pick (ltb x (2 ^ 64)) (Some x) None
 
 -- numbers that keep the order, and a number above them
 pub record Fresh (n : ℕ) (numbers others : List ℕ) (used number : ℕ) : Type 0 where

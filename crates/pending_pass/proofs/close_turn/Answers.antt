@@ -3,14 +3,18 @@ use Rattle.sizes.specs.Sizes.{most_faces}
 use Rattle.names.specs.Fingerprint.{fingerprint}
 use Rattle.happenings.specs.Noted.{fate_in}
 use Rattle.pending_table.specs.Places.View.{view_wide}
-use Rattle.pending_pass.specs.Laws.Turn.{turn_closed}
+use Rattle.pending_pass.specs.Laws.Turn.{leaves_stood, turn_closed}
 use Rattle.pending_pass.proofs.close_turn.Goals as goal
 
 pub returns : goal.returns
 unfolding fate_in
 returns c =
     let a = c.args in
+    let s = c.end_sent.ensures.stands in
+    let t = c.end_requests.ensures.stands in
     λ e p.
     turn_closed most_faces (fingerprint a.start) a.time _ _ _ _ _ _ a.made _ e p (view_wide most_faces _ _ _ _ _ _ e p).0 _ _ _ _ _
-    c.leave_if_idle-left.ensures a.face c.bury_face-own.ensures (c.note_face-noted.ensures a.time) _ c.end_sent.ensures
-    (rw c.add.ensures at c.end_requests.ensures)
+    (λ x q. leaves_stood _ _ x _ _ _ _ _ _ _ a.h s
+    (leaves_stood _ _ x _ _ _ _ _ _ _ a.h t (c.leave_if_idle.ensures.leaves x (rw (t.places a.h, s.places a.h) q))))
+    a.face c.bury_face.ensures (c.note_face-noted.ensures a.time) _ c.end_sent.ensures.changed
+    (rw (c.add.ensures, s.places a.h) at c.end_requests.ensures.changed)

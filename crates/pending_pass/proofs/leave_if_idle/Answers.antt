@@ -1,17 +1,36 @@
--- Each return is one law over what the calls before it ensure: the entry stays, or it is buried and taken out.
+-- Each return is one law over what the calls before it ensure: the entry is buried and taken out, or it stays. A handle that has an entry
+-- has a place among them, and a handle that has none has not.
+use mathlib.Core.Path.{refl, sym, ◌∙◌}
+use Rattle.std.proofs.Common.{ltb-true, lt-ltb}
+use Rattle.std.proofs.Math.Option.{none-ne-some}
+use Rattle.std.proofs.Math.Bool.{true≢false}
 use Rattle.names.specs.Fingerprint.{fingerprint}
+use Rattle.records.specs.Laws.Place.{place_some, place_lt}
 use Rattle.pending_pass.specs.Laws.Turn.{leaves_not, leaves_out}
 use Rattle.pending_pass.proofs.leave_if_idle.Goals as goal
 
 pub returns-then-is_idle : goal.returns-then-is_idle
 returns-then-is_idle c =
     let a = c.args in
-    λ e p.
-    leaves_out (fingerprint a.start) a.time _ _ _ _ e p _ c.is_idle.ensures c.if-is_idle.true
-    _ c.bury-buried.ensures _ c.take_out.ensures.left _ c.take_out.ensures.chosen
+    let there = place_some _ _ (ltb-true _ _ (sym c.is_there.ensures ∙ c.if-is_there.true)) in
+    record {
+      leaves = λ e p.
+          leaves_out (fingerprint a.start) a.time _ _ _ _ e p _ c.is_idle.ensures c.if-is_idle.true
+          _ c.bury.ensures _ c.take_out.ensures.left _ c.take_out.ensures.chosen;
+      absent = λ q. absurd (none-ne-some there.0 (sym q ∙ there.1));
+    }
 
-pub returns : goal.returns
-returns c =
+pub returns-else-is_idle : goal.returns-else-is_idle
+returns-else-is_idle c =
     let a = c.args in
-    λ e p.
-    leaves_not (fingerprint a.start) a.time _ _ _ _ e p _ c.is_idle.ensures c.if-is_idle.false
+    record {
+      leaves = λ e p.
+          leaves_not (fingerprint a.start) a.time _ _ _ _ e p _ c.is_idle.ensures c.if-is_idle.false;
+      absent = λ _. (refl, refl);
+    }
+
+pub returns-else-is_there : goal.returns-else-is_there
+returns-else-is_there c = record {
+  leaves = λ e p. absurd (true≢false (sym (lt-ltb _ _ (place_lt _ _ e p)) ∙ sym c.is_there.ensures ∙ c.if-is_there.false));
+  absent = λ _. (refl, refl);
+}

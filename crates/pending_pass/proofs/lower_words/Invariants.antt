@@ -4,7 +4,4 @@ use Rattle.pending_pass.specs.Places.Lowering.{LowersTo}
 use Rattle.pending_pass.proofs.lower_words.Given as goal
 
 abbrev pub invariant-loop-face : goal.invariant-loop-face
-invariant-loop-face l = LowersTo most_faces l.set l.class l.had l.initial.classes l.left l.face l.have l.classes
-
-abbrev pub decreases-loop-face : goal.decreases-loop-face
-decreases-loop-face l = l.left
+invariant-loop-face l = LowersTo most_faces l.set l.class l.had l.initial.classes l.face-iterator.left l.have l.classes

@@ -7,27 +7,27 @@ use Rattle.pending_pass.specs.Laws.Faces.{has_none}
 use Rattle.pending_pass.specs.Laws.Lowest.{lowest_start, lowest_next, lowest_less, lowest_end, zeros_at}
 use Rattle.pending_pass.proofs.lowest_classes.Goals as goal
 
-pub loop-s-init : goal.loop-s-init
-loop-s-init c = (
+pub loop-left-init : goal.loop-left-init
+loop-left-init c = (
   c.next-h.ensures.at,
-  lowest_start _ _ _ _ _ (marks_length most_faces _ _ _ _ _ _) refl (λ f. zeros_at most_faces f)
-      (λ f. has_none most_faces f),
+  lowest_start _ _ _ _ _ (marks_length most_faces _ _ _ _ _ _) refl (λ f. zeros_at most_faces f) (λ f. has_none most_faces f),
 )
 
-pub loop-s-smaller : goal.loop-s-smaller
-loop-s-smaller c =
-    let l = c.loop-s in
-    lowest_less _ _ _ _ _ _ l.invariant.1 _ l.invariant.0 (ltb-true _ _ (sym c.is_there.ensures ∙ c.loop-s-test.true)) _ c.rest-left.ensures
+pub loop-left-smaller : goal.loop-left-smaller
+loop-left-smaller c =
+    let l = c.loop-left in
+    lowest_less _ _ _ _ _ _ l.invariant.1 _ l.invariant.0 (ltb-true _ _ (sym c.is_there.ensures ∙ c.loop-left-test.true)) _
+    c.rest-left.ensures
 
-pub loop-s-preserved : goal.loop-s-preserved
-loop-s-preserved c =
-    let l = c.loop-s in (
-      c.next-h-in-loop-s.ensures.at,
-      lowest_next _ _ _ _ _ _ l.invariant.1 _ l.invariant.0 (ltb-true _ _ (sym c.is_there.ensures ∙ c.loop-s-test.true)) _
-          c.asking_faces-asked.ensures _ c.facts_of-facts.ensures _ _ c.lower_words-had.ensures _ c.rest-left.ensures,
+pub loop-left-preserved : goal.loop-left-preserved
+loop-left-preserved c =
+    let l = c.loop-left in (
+      c.next-h-in-loop-left.ensures.at,
+      lowest_next _ _ _ _ _ _ l.invariant.1 _ l.invariant.0 (ltb-true _ _ (sym c.is_there.ensures ∙ c.loop-left-test.true)) _
+          c.asking_faces.ensures _ c.facts_of.ensures _ _ c.lower_words-had.ensures _ c.rest-left.ensures,
     )
 
 pub returns : goal.returns
 returns c =
-    let l = c.loop-s in
-    lowest_end _ _ _ _ _ _ l.invariant.1 _ l.invariant.0 (ltb-false _ _ (sym c.is_there.ensures ∙ c.loop-s-test.false))
+    let l = c.loop-left in
+    lowest_end _ _ _ _ _ _ l.invariant.1 _ l.invariant.0 (ltb-false _ _ (sym c.is_there.ensures ∙ c.loop-left-test.false))

@@ -12,5 +12,5 @@ returns c =
     let a = c.args in
     λ e p.
     turn_met most_faces (fingerprint a.start) a.time _ _ _ _ _ _ a.made _ e p (view_wide most_faces _ _ _ _ _ _ e p).0 _
-    c.asking_faces-asked.ensures a.face a.adhoc _ c.self_met-met.ensures (c.note_by_face-noted.ensures a.time) _ c.bury-buried.ensures
+    c.asking_faces-asked.ensures a.face a.adhoc _ c.self_met-met.ensures (c.note_by_face-noted.ensures a.time) _ c.bury.ensures
     _ c.take_out.ensures.left _ c.take_out.ensures.chosen

@@ -6,5 +6,5 @@ use Rattle.pending_pass.proofs.self_met.Goals as goal
 pub returns-then-adhoc : goal.returns-then-adhoc
 returns-then-adhoc c = λ g y. rw c.if-adhoc.true (met_none most_faces _ g)
 
-pub returns : goal.returns
-returns c = λ g y. rw (c.add.ensures, c.if-adhoc.false) (met_one most_faces _ g y)
+pub returns-else-adhoc : goal.returns-else-adhoc
+returns-else-adhoc c = λ g y. rw (c.add.ensures, c.if-adhoc.false) (met_one most_faces _ g y)

@@ -117,9 +117,8 @@ pick_or false h = refl
 
 module _ (n set₀ class had : ℕ) (ws : List ℕ) where
   -- at the start all faces of the set are left
-  pub lowers_start : (face : ℕ) → length ws ≡ n → Walks n set₀ face → LowersTo n set₀ class had ws set₀ face had ws
-  lowers_start face l w = record {
-    walk = w;
+  pub lowers_start : length ws ≡ n → LowersTo n set₀ class had ws set₀ had ws
+  lowers_start l = record {
     all = l;
     long = refl;
     part = λ f h. h;
@@ -127,29 +126,27 @@ module _ (n set₀ class had : ℕ) (ws : List ℕ) where
     have = λ f _. pick_or (has_face n set₀ f) (has_face n had f);
   }
 
-  module _ (left face had' : ℕ) (ws' : List ℕ) (h : LowersTo n set₀ class had ws left face had' ws') where
+  module _ (left face had' : ℕ) (ws' : List ℕ) (h : LowersTo n set₀ class had ws left had' ws') (a : Walks n left face) where
     -- a turn: the class joins for the lowest face
-    pub lowers_turn : face ≤ n → (left'' face'' had'' : ℕ) (ws'' : List ℕ) → has_face n left'' face ≡ false
+    pub lowers_turn : face ≤ n → (left'' had'' : ℕ) (ws'' : List ℕ) → has_face n left'' face ≡ false
         → ((g : ℕ) → g ≢ face → has_face n left'' g ≡ has_face n left g)
         → had'' ≡ with_face n had' face → ws'' ≡ set ws' (face - 1) (lower_word (has_face n had' face) (get_or ws' (face - 1) 0) class)
-        → Walks n left'' face''
-        → LowersTo n set₀ class had ws left'' face'' had'' ws''
-    lowers_turn k left'' face'' had'' ws'' gone others e w v =
-        let there : has_face n left face ≡ true = walk_has h.walk k in
-        let is : is_face n face ≡ true = (face_yes n face).1 (h.walk.first, k) in
+        → LowersTo n set₀ class had ws left'' had'' ws''
+    lowers_turn k left'' had'' ws'' gone others e w =
+        let there : has_face n left face ≡ true = walk_has a k in
+        let is : is_face n face ≡ true = (face_yes n face).1 (a.first, k) in
         let inset : has_face n set₀ face ≡ true = h.part face there in
         let was : get_or ws' (face - 1) 0 ≡ get_or ws (face - 1) 0 = h.words face is ∙ pick_yes _ _ _ there in
         let old : has_face n had' face ≡ has_face n had face = h.have face is ∙ pick_yes _ _ _ there in
         record {
-          walk = v;
           all = h.all;
           long = ap length w ∙ length-set ws' (face - 1) _ ∙ h.long;
           part = λ f q. same_or f face (λ z. absurd (true≢false (sym q ∙ ap (has_face n left'') z ∙ gone)))
               (λ d. h.part f (sym (others f d) ∙ q));
           words = λ f y. same_or f face
-              (λ z. rw (z, w) (get_or-set_same ws' (face - 1) _ 0 (omega (arith, h.long, h.all, h.walk.first)) ∙ rw (was, old)
+              (λ z. rw (z, w) (get_or-set_same ws' (face - 1) _ 0 (omega (arith, h.long, h.all, a.first)) ∙ rw (was, old)
               (sym (pick_no _ _ _ gone ∙ pick_yes _ _ _ inset))))
-              (λ d. rw w (get_or-set_other ws' (face - 1) (f - 1) _ 0 (λ q. d (omega (arith, (face_yes n f).0 y, h.walk.first))))
+              (λ d. rw w (get_or-set_other ws' (face - 1) (f - 1) _ 0 (λ q. d (omega (arith, (face_yes n f).0 y, a.first))))
               ∙ h.words f y ∙ rw (others f d));
           have = λ f y. same_or f face
               (λ z. rw (z, e) (has_added_same n had' face ∙ is ∙ sym (pick_no _ _ _ gone ∙ rw inset)))
@@ -160,7 +157,7 @@ module _ (n set₀ class had : ℕ) (ws : List ℕ) where
     pub lowers_end : n < face → Lowers n set₀ class had ws had' ws'
     lowers_end k =
         let none : ((f : ℕ) → is_face n f ≡ true → has_face n left f ≡ false) =
-        (λ f y. lowest_before n left h.walk.few f (omega (arith, (face_yes n f).0 y, h.walk.lowest))) in
+        (λ f y. lowest_before n left a.few f (omega (arith, (face_yes n f).0 y, a.lowest))) in
         record {
           long = h.long;
           words = λ f y. h.words f y ∙ pick_no _ _ _ (none f y);

@@ -10,6 +10,7 @@ use Rattle.happenings.specs.Laws.Noted.{notes_one}
 use Rattle.pending_pass.specs.Ages.{Ages}
 use Rattle.pending_pass.specs.Satisfies.{Satisfies}
 use Rattle.pending_pass.specs.Closes.{Closes}
+use Rattle.pending_pass.specs.Places.Pass.{Leaves}
 
 module _ {st st₂ now now₂ : ℕ} {es es₂ es' es₂' : List Entry} {ls ls₂ ls' ls₂' : List Line} {rs rs₂ rs' rs₂' : List (List ℕ)}
     {made' made₂' : ℕ} (start : st ≡ st₂) (time : now ≡ now₂) (entries : es ≡ es₂) (lines : ls ≡ ls₂) (rows : rs ≡ rs₂) where
@@ -41,3 +42,14 @@ module _ {st st₂ now now₂ : ℕ} {es es₂ es' es₂' : List Entry} {ls ls�
         rw (start, time, entries, lines, rows, count, face, d, m) at p in
         let n = notes_one most_rows o.rows q.rows in
         (o.entries ∙ sym q.entries, o.lines ∙ sym q.lines, n.0, n.1, o.classes ∙ sym q.classes, o.copies ∙ sym q.copies)
+
+-- an entry without requests leaves, from tables where it stands at the same place and choices are the same
+pub leaves_same : {C : Type 0} {st st₂ now now₂ k k₂ : ℕ} {e : Entry} {es es₂ es' es₂' : List Entry} {ms ms₂ ms' ms₂' : C → List Bool}
+    {ls ls₂ ls' ls₂' : List Line} → st ≡ st₂ → now ≡ now₂ → k ≡ k₂ → es ≡ es₂ → ((c : C) → ms c ≡ ms₂ c) → ls ≡ ls₂
+    → Leaves (fingerprint st) now k e es ms ls es' ms' ls' → Leaves (fingerprint st₂) now₂ k₂ e es₂ ms₂ ls₂ es₂' ms₂' ls₂'
+    → (es' ≡ es₂') × ((c : C) → ms' c ≡ ms₂' c) × (ls' ≡ ls₂')
+leaves_same start time at entries marks lines p q = (
+  p.entries ∙ rw (at, entries) (sym q.entries),
+  λ c. p.marks c ∙ rw (at, marks c) (sym (q.marks c)),
+  p.lines ∙ rw (start, time, lines) (sym q.lines),
+)

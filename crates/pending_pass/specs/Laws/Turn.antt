@@ -28,6 +28,10 @@ use Rattle.pending_records.specs.Laws.Held.{only_where}
 use Rattle.pending_pass.specs.Lowest.{meets_own}
 use Rattle.pending_pass.specs.Satisfies.{data_fate, ends_by}
 use Rattle.records.specs.Closing.{without_face, closing_lines_by, closing_ends}
+use Rattle.pending_table.specs.declared.Pending.{Pending}
+use Rattle.pending_table.specs.declared.Handle.{Handle}
+use Rattle.pending_table.specs.declared.Chosen.{Chosen}
+use Rattle.pending_table.specs.Places.View.{Stands, place_of, marks_of}
 use Rattle.pending_pass.specs.Places.Pass.{Work, notes, Turned, Leaves}
 use Rattle.pending_pass.specs.Places.Works.{ageing_work, satisfying_work, closing_work}
 use Rattle.pending_pass.specs.Laws.Pass.{joined_append}
@@ -121,6 +125,18 @@ module _ {C : Type 0} (print : List ℕ → ℕ → ℕ) (now k : ℕ) (es : Lis
         marks = λ c. m c ∙ sym (pick_yes _ _ _ i);
         lines = b ∙ ap (joined_all most_dead ls) ((rw p) ∙ sym (pick_yes _ _ _ i));
       }
+
+-- an entry stays or leaves the same in a table whose handles and choices stand for the same
+pub leaves_stood : (print : List ℕ → ℕ → ℕ) (now : ℕ) (e : Entry) (es es' : List Entry) (ls ls' : List Line) (marks : Chosen → List Bool)
+    (p q : Pending) (h : Handle) → Stands p q → Leaves print now (place_of q h) e es (marks_of q) ls es' marks ls'
+    → Leaves print now (place_of p h) e es (marks_of p) ls es' marks ls'
+leaves_stood print now e es es' ls ls' marks p q h s l =
+    let at = s.places h in
+    record {
+      entries = rw at at l.entries;
+      marks = λ c. l.marks c ∙ rw (at, s.choices c);
+      lines = l.lines;
+    }
 
 module _ {C : Type 0} (n : ℕ) (print : List ℕ → ℕ → ℕ) (now k : ℕ) (es : List Entry) (marks : C → List Bool) (ls : List Line)
     (rs rs' : List (List ℕ)) (made made' : ℕ)

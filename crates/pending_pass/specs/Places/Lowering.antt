@@ -3,7 +3,6 @@
 use Rattle.std.specs.Prelude.{ℕ, ◌-◌, min, ◌≡◌, Bool, true, ◌||◌, List, ◌++◌, length, get_or}
 use Rattle.laws.specs.Pick.{pick}
 use Rattle.faces.specs.Set.{has_face}
-use Rattle.faces.specs.Laws.Walk.{Walks}
 use Rattle.records.specs.Face.{is_face}
 use Rattle.records.specs.Entry.{Entry}
 use Rattle.pending_pass.specs.Lowest.{class_word, is_asked}
@@ -20,9 +19,8 @@ pub record Lowers (n set class had : ℕ) (ws : List ℕ) (had' : ℕ) (ws' : Li
       → get_or ws' (f - 1) 0 ≡ pick (has_face n set f) (lower_word (has_face n had f) (get_or ws (f - 1) 0) class) (get_or ws (f - 1) 0)
   pub have : (f : ℕ) → is_face n f ≡ true → has_face n had' f ≡ (has_face n set f || has_face n had f)
 
--- on the way, at a face: for the faces that are left it is still to join
-pub record LowersTo (n set class had : ℕ) (ws : List ℕ) (left face had' : ℕ) (ws' : List ℕ) : Type 0 where
-  pub walk : Walks n left face
+-- on the way: for the faces that are left it is still to join
+pub record LowersTo (n set class had : ℕ) (ws : List ℕ) (left had' : ℕ) (ws' : List ℕ) : Type 0 where
   pub all : length ws ≡ n
   pub long : length ws' ≡ length ws
   pub part : (f : ℕ) → has_face n left f ≡ true → has_face n set f ≡ true

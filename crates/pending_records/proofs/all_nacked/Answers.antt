@@ -2,38 +2,36 @@
 use native.Mathlib.Omega.{arith}
 use mathlib.Core.Path.{refl, sym, ◌∙◌}
 use Rattle.sizes.specs.Sizes.{most_faces}
+use Rattle.faces.specs.Laws.Gives.{starts}
 use Rattle.pending_records.specs.Operations.{nacks_in}
 use Rattle.pending_records.specs.Laws.Nacks.{nacks_turn, nacks_open, nacks_end, view_nacks}
-use Rattle.faces.specs.Laws.Walk.{walks, walk_less}
 use Rattle.pending_records.proofs.all_nacked.Goals as goal
 
 pub loop-f-init : goal.loop-f-init
-loop-f-init c = (walks (omega arith) c.lowest-f.ensures, refl)
+loop-f-init c = rw (starts c.into_iter-f-iterator.ensures.into_iter_gives c.of-f-items.ensures) refl
 
-pub returns-then-nack-eq0 : goal.returns-then-nack-eq0
+pub returns-in_err-nacked : goal.returns-in_err-nacked
 unfolding nacks_in
-returns-then-nack-eq0 c =
+returns-in_err-nacked c =
+    let s = c.in-Some.ensures.steps in
     let l = c.loop-f in
     let a = c.args in
-    λ nm. sym (view_nacks most_faces nm a.head.now a.recs.now ∙ l.invariant.1
-    ∙ nacks_open l.invariant.0 a.recs.now (omega arith) l.reason (omega arith))
-
-pub loop-f-smaller : goal.loop-f-smaller
-loop-f-smaller c = walk_less c.loop-f.invariant.0 (omega arith) c.remove-left.ensures
+    let word = c.in_err-nacked.ensures in
+    λ nm. rw c.from_residual.ensures (sym (view_nacks most_faces nm a.head.now a.recs.now ∙ l.invariant
+    ∙ nacks_open s.walk a.recs.now s.within l.reason (omega arith)))
 
 pub loop-f-preserved : goal.loop-f-preserved
 loop-f-preserved c =
+    let s = c.in-Some.ensures.steps in
     let l = c.loop-f in
-    let a = c.args in
-    let lesser = rw c.reason_of.ensures at c.lesser-reason.ensures in (
-      walks (omega arith) c.lowest-f-in-loop-f.ensures,
-      l.invariant.1 ∙ nacks_turn l.invariant.0 a.recs.now (omega arith) c.remove-left.ensures l.reason (λ q. omega arith) lesser,
-    )
+    let nacked = c.in_ok-nacked.ensures in
+    let lesser = rw (c.reason_of.ensures, nacked.1) at c.lesser-reason.ensures in
+    l.invariant ∙ nacks_turn s.walk c.args.recs.now s.within s.rest l.reason (λ q. omega arith) lesser
 
 pub returns : goal.returns
 unfolding nacks_in
 returns c =
+    let s = c.in-None.ensures.steps in
     let l = c.loop-f in
     let a = c.args in
-    λ nm. sym (view_nacks most_faces nm a.head.now a.recs.now ∙ l.invariant.1
-    ∙ nacks_end l.invariant.0 a.recs.now (omega arith) l.reason)
+    λ nm. sym (view_nacks most_faces nm a.head.now a.recs.now ∙ l.invariant ∙ nacks_end s.walk a.recs.now s.past l.reason)

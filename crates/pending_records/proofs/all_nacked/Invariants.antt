@@ -3,13 +3,8 @@ use mathlib.Core.Path.{◌≡◌}
 use lib.ListN.{get_or}
 use Rattle.sizes.specs.Sizes.{most_faces}
 use Rattle.pending_records.specs.Places.Walk.{sent_in, nacks_from}
-use Rattle.faces.specs.Laws.Walk.{Walks}
 use Rattle.pending_records.proofs.all_nacked.Given as goal
 
 abbrev pub invariant-loop-f : goal.invariant-loop-f
 invariant-loop-f l =
-    Walks most_faces l.left l.f
-    × (nacks_from 0 (sent_in most_faces (get_or l.head 5 0) l.recs) ≡ nacks_from l.reason (sent_in most_faces l.left l.recs))
-
-abbrev pub decreases-loop-f : goal.decreases-loop-f
-decreases-loop-f l = l.left
+    nacks_from 0 (sent_in most_faces (get_or l.head 5 0) l.recs) ≡ nacks_from l.reason (sent_in most_faces l.f-iterator.left l.recs)

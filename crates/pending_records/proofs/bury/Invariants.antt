@@ -7,15 +7,10 @@ use Rattle.names.specs.Fingerprint.{fingerprint}
 use Rattle.records.specs.Line.{joined_all}
 use Rattle.dead.specs.Places.View as dead
 use Rattle.pending_records.specs.Places.Walk.{sent_in, lines_of}
-use Rattle.faces.specs.Laws.Walk.{Walks}
 use Rattle.pending_records.proofs.bury.Given as goal
 
 abbrev pub invariant-loop-f : goal.invariant-loop-f
 invariant-loop-f l =
-    Walks most_faces l.left l.f
-    × (joined_all most_dead (dead.view l.initial.lines l.initial.ring)
+    joined_all most_dead (dead.view l.initial.nonces)
     (lines_of (fingerprint l.start l.own) l.time (sent_in most_faces (get_or l.head 5 0) l.recs))
-    ≡ joined_all most_dead (dead.view l.lines l.ring) (lines_of (fingerprint l.start l.own) l.time (sent_in most_faces l.left l.recs)))
-
-abbrev pub decreases-loop-f : goal.decreases-loop-f
-decreases-loop-f l = l.left
+    ≡ joined_all most_dead (dead.view l.nonces) (lines_of (fingerprint l.start l.own) l.time (sent_in most_faces l.f-iterator.left l.recs))

@@ -4,14 +4,10 @@ use Prim.Native.Nat.{◌≤◌}
 use Rattle.sizes.specs.Sizes.{most_faces}
 use Rattle.records.specs.Slots.{least_by}
 use Rattle.pending_records.specs.Places.Walk.{sent_in, less_of, time_of, best_of}
-use Rattle.faces.specs.Laws.Walk.{Walks}
 use Rattle.pending_records.proofs.earliest.Given as goal
 
 abbrev pub invariant-loop-f : goal.invariant-loop-f
 invariant-loop-f l =
-    Walks most_faces l.left l.f × (l.best ≤ most_faces)
-    × (least_by time_of (sent_in most_faces l.initial.left l.recs)
-    ≡ less_of time_of (best_of l.recs l.best) (least_by time_of (sent_in most_faces l.left l.recs)))
-
-abbrev pub decreases-loop-f : goal.decreases-loop-f
-decreases-loop-f l = l.left
+    (l.best ≤ most_faces)
+    × (least_by time_of (sent_in most_faces l.initial.f-iterator.left l.recs)
+    ≡ less_of time_of (best_of l.recs l.best) (least_by time_of (sent_in most_faces l.f-iterator.left l.recs)))

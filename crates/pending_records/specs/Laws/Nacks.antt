@@ -1,6 +1,6 @@
 -- Whether all out-records are Nacked, and the smallest reason, by a running reason.
 -- Assumes nothing.
-use Rattle.std.specs.Prelude.{ℕ, zero, suc, ◌-◌, ◌≤◌, ◌<◌, min, ◌≡◌, not, List, ◌∷◌, ◌≢◌, get_or, ltb, eqb}
+use Rattle.std.specs.Prelude.{ℕ, zero, suc, ◌-◌, ◌≤◌, ◌<◌, min, ◌≡◌, not, List, ◌∷◌, ◌≢◌, get_or, ltb, eqb, None, Option, Some}
 use Rattle.std.proofs.Math.Path.{refl}
 use Rattle.std.proofs.Common.{sym, ◌∙◌, arith, ltb-true, ltb-false, eqb-true, ne_eqb}
 use Rattle.std.proofs.Math.Option.{none, some}
@@ -12,7 +12,6 @@ use Rattle.records.specs.Entry.{Sent, was_nacked, lesser_reason, smallest_reason
 use Rattle.faces.specs.Set.{minus_face}
 use Rattle.faces.specs.Laws.Walk.{Walks, walk_more, walk_end}
 use Rattle.pending_entry.specs.Places.View.{nack_word, sent_at, view_for, view_sent}
-use Rattle.pending_records.specs.declared.Nacks.{Nacks}
 use Rattle.pending_records.specs.Operations.{nacks_in, nacks_of}
 use Rattle.pending_records.specs.Places.Walk.{word, sent_in, nacks_from}
 
@@ -89,9 +88,9 @@ unfolding nacks_of all_nacked
 view_nacks n name head recs = rw (view_sent n name head recs) (sym (nacks_start _))
 
 -- answers that tell the same reason are the same
-pub nacks_same : (a b : Nacks) → nacks_in a ≡ nacks_in b → a ≡ b
+pub nacks_same : (a b : Option ℕ) → nacks_in a ≡ nacks_in b → a ≡ b
 unfolding nacks_in
-nacks_same Nacks.Open Nacks.Open e = refl
-nacks_same Nacks.Open (Nacks.All r) e = cc
-nacks_same (Nacks.All r) Nacks.Open e = cc
-nacks_same (Nacks.All r) (Nacks.All q) e = cc
+nacks_same None None e = refl
+nacks_same None (Some r) e = cc
+nacks_same (Some r) None e = cc
+nacks_same (Some r) (Some q) e = cc

@@ -1,6 +1,9 @@
 -- A nonce in one column of the records, and in an entry.
 -- Assumes nothing.
-use Rattle.std.specs.Prelude.{ℕ, zero, suc, ◌-◌, ◌≤◌, ◌≡◌, refl, Bool, ◌||◌, List, get_or}
+use Rattle.std.specs.Prelude.{ℕ, zero, suc, ◌-◌, ◌≤◌, ◌<◌, ◌≡◌, refl, Bool, true, false, ◌||◌, List, [], ◌∷◌, length, get_or}
+use Rattle.std.specs.Bool.{MatchBool}
+use Rattle.std.specs.List.{HoldsAt, AllWithin}
+use Rattle.std.proofs.Common.{sym, arith}
 use Rattle.std.proofs.Math.Option.{none, some}
 use Rattle.std.proofs.Math.Dec.{eqb}
 use Rattle.laws.specs.Lists.{any_of}
@@ -49,3 +52,28 @@ module _ (n : ℕ) (name head : List ℕ) (recs : List (List ℕ)) where
         any_held (λ w. eqb w nonce) (slots_of n (get_or head 4 0) (column_at recs 0)),
         any_held (λ w. eqb w nonce) (slots_of n (get_or head 5 0) (column_at recs 2)),
       ))
+
+module _ {A : Type 0} (p : A → Bool) where
+  -- a test that one element passes
+  any_there : (l : List A) (k : ℕ) → k < length l → HoldsAt (λ x. p x ≡ true) l k → any_of p l ≡ true
+  unfolding any_of
+  any_there [] k h e = absurd (omega (arith, h))
+  any_there (x ∷ l) zero h e = rw (e x) refl
+  any_there (x ∷ l) (suc k) h e = rw (any_there l k (omega (arith, h)) (λ d. e d)) (go (p x))
+    where
+      go : (b : Bool) → (b || true) ≡ true
+      go true = refl
+      go false = refl
+
+  -- a test that no element passes
+  any_off : (l : List A) → AllWithin (λ x. p x ≡ false) l 0 (length l) → any_of p l ≡ false
+  unfolding any_of
+  any_off [] e = refl
+  any_off (x ∷ l) e = rw (e 0 x (omega arith) (omega arith), any_off l (λ k d _ h. e (suc k) d (omega arith) (omega (arith, h)))) refl
+
+  -- what is found one by one is what a test of all finds
+  pub any_found : (r : Bool) (l : List A)
+      → MatchBool r ((k : ℕ) × (k < length l) × HoldsAt (λ x. p x ≡ true) l k) (AllWithin (λ x. p x ≡ false) l 0 (length l))
+      → r ≡ any_of p l
+  any_found true l (k, h, e) = sym (any_there l k h e)
+  any_found false l e = sym (any_off l e)

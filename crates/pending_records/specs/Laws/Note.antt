@@ -25,40 +25,38 @@ use Rattle.happenings.specs.declared.Fate as told
 use Rattle.pending_records.specs.Places.Walk.{word, request_row, rows_of}
 use Rattle.pending_records.specs.Laws.Held.{held_common}
 
--- some rows are noted, those of the faces left are still to be noted, of which `f` is the lowest: noting those too notes all
-pub record Noting (most n class : ℕ) (x : ℕ → ℕ) (recs before : List (List ℕ)) (at set : ℕ) (rows : List (List ℕ)) (left next f : ℕ)
+-- some rows are noted, those of the faces left are still to be noted: noting those too notes all
+pub record Noting (most n class : ℕ) (x : ℕ → ℕ) (recs before : List (List ℕ)) (at set : ℕ) (rows : List (List ℕ)) (left next : ℕ)
     : Type 0 where
   pub all : length rows ≡ most
-  pub walk : Walks n left f
   pub on : (r : ℕ) (after : List (List ℕ)) → Notes most r after rows next (rows_of n class x left recs)
       → Notes most r after before at (rows_of n class x set recs)
 
 module _ (most n class : ℕ) (x : ℕ → ℕ) (recs before : List (List ℕ)) (at set : ℕ) where
   -- at the start all faces are left
-  pub noting_start : (f : ℕ) → length before ≡ most → Walks n set f → Noting most n class x recs before at set before set at f
-  noting_start f all w = record { all = all; walk = w; on = λ r after h. h }
+  pub noting_start : length before ≡ most → Noting most n class x recs before at set before set at
+  noting_start all = record { all = all; on = λ r after h. h }
 
-  module _ (rows : List (List ℕ)) (left next f : ℕ) (h : Noting most n class x recs before at set rows left next f) where
+  module _ (rows : List (List ℕ)) (left next f : ℕ) (h : Noting most n class x recs before at set rows left next) (a : Walks n left f) where
     -- a turn notes the request of the lowest face
-    pub noting_more : (rows' : List (List ℕ)) (left' next' f' : ℕ) → f ≤ n
+    pub noting_more : (rows' : List (List ℕ)) (left' next' : ℕ) → f ≤ n
         → Notes most next' rows' rows next (note_of f class (x f) (word recs f 0) (word recs f 1) ∷ [])
-        → left' ≡ minus_face n left f → Walks n left' f' → Noting most n class x recs before at set rows' left' next' f'
+        → left' ≡ minus_face n left f → Noting most n class x recs before at set rows' left' next'
     unfolding rows_of request_row request_at
-    noting_more rows' left' next' f' l a e w = record {
-      all = notes_length most next' next rows' rows _ a ∙ h.all;
-      walk = w;
-      on = λ r after b.
+    noting_more rows' left' next' l b e = record {
+      all = notes_length most next' next rows' rows _ b ∙ h.all;
+      on = λ r after d.
           let here = note_of f class (x f) (word recs f 0) (word recs f 1) in
           let more : rows_of n class x left recs ≡ (here ∷ []) ++ rows_of n class x left' recs =
-          rw (walk_more h.walk l e (request_at recs)) in
-          h.on r after (rw more (notes_then most next' r next rows rows' after _ _ h.all a b));
+          rw (walk_more a l e (request_at recs)) in
+          h.on r after (rw more (notes_then most next' r next rows rows' after _ _ h.all b d));
     }
 
     -- where no face is left all are noted
     pub noting_end : n < f → Notes most next rows before at (rows_of n class x set recs)
     unfolding rows_of
     noting_end l =
-        let none : map (request_row class x) (held (slots_of n left (request_at recs))) ≡ [] = rw (walk_end h.walk l (request_at recs)) in
+        let none : map (request_row class x) (held (slots_of n left (request_at recs))) ≡ [] = rw (walk_end a l (request_at recs)) in
         h.on next rows (rw none (notes_none most next rows))
 
 -- numbers that are the same for each face make the same rows
@@ -111,6 +109,12 @@ module _ (n : ℕ) (name head : List ℕ) (recs : List (List ℕ)) (now : ℕ) w
       go : (b : Bool) → a ≡ pick b a a
       go true = refl
       go false = refl
+
+  -- with two fates that are one
+  pub view_noted_same : (x : told.Fate) (special set : ℕ) → noted_split n set special x x now (view_for n name head recs)
+      ≡ noted (fate_in x) now (has_face n set) (view_for n name head recs)
+  view_noted_same x special set =
+      view_noted_by special x x refl refl set _ refl ∙ sym (view_noted_all (fate_in x) refl special set _ refl)
 
   -- the row of a face's request
   pub view_noted_one : (x : Fate) (f : ℕ) → has_face n (get_or head 4 0) f ≡ true

@@ -1,6 +1,7 @@
 -- What the walks over an entry's records have so far, and what is left, as the code has it.
 -- Assumes nothing.
-use Rattle.std.specs.Prelude.{ℕ, ◌-◌, max, Bool, not, List, [], map, get_or, ltb, eqb}
+use Rattle.std.specs.declared.option.Option as code
+use Rattle.std.specs.Prelude.{ℕ, ◌-◌, max, Bool, not, List, [], map, get_or, ltb, eqb, None, Some}
 use Rattle.std.proofs.Math.Option.{Option, none, some}
 use Rattle.laws.specs.Lists.{any_of}
 use Rattle.laws.specs.Pick.{pick}
@@ -10,7 +11,6 @@ use Rattle.records.specs.Line.{Line}
 use Rattle.faces.specs.Slots.{slots_of}
 use Rattle.happenings.specs.Noted.{note_of}
 use Rattle.pending_entry.specs.Places.View.{request_at, sent_at}
-use Rattle.pending_records.specs.declared.Newest.{Newest}
 
 -- a word of the records of a face
 abbrev pub word : List (List ℕ) → ℕ → ℕ → ℕ
@@ -29,14 +29,19 @@ unfoldable pub is_over : ℕ → List (List ℕ) → ℕ → Bool
 is_over now recs f = not (ltb now (word recs f 1))
 
 -- the time that an answer tells
-unfoldable pub newest_in : Newest → Option ℕ
-newest_in Newest.None = none
-newest_in (Newest.At t) = some t
+unfoldable pub newest_in : code.Option ℕ → Option ℕ
+newest_in None = none
+newest_in (Some t) = some t
 
 -- the newest of a time and of those after it
 unfoldable pub newer : ℕ → Option ℕ → Option ℕ
 newer t none = some t
 newer t (some u) = some (max t u)
+
+-- the newest of a time that may be none and of those after it
+unfoldable pub newer_of : Option ℕ → Option ℕ → Option ℕ
+newer_of none o = o
+newer_of (some t) o = newer t o
 
 -- the time of an out-record that is held
 abbrev pub time_of : Held Sent → ℕ

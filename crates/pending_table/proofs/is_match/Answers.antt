@@ -19,8 +19,8 @@ returns-then-head-eq1 c =
       c.is_prefix.ensures,
     )
 
-pub returns : goal.returns
-returns c =
+pub returns-else-head-eq1 : goal.returns-else-head-eq1
+returns-else-head-eq1 c =
     λ recs.
     rw (
       row_matches,

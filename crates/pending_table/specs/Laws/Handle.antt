@@ -1,7 +1,7 @@
 -- What a handle means while other entries are changed, taken out or opened: its own entry stays its own.
 -- Assumes nothing.
 use Prim.Native.Nat.{ℕ, zero, suc, ◌<◌}
-use Rattle.std.specs.Prelude.{◌≡◌, Bool, true, false, ◌≢◌, length}
+use Rattle.std.specs.Prelude.{◌≡◌, Bool, true, false, ◌≢◌, length, ltb}
 use Rattle.std.proofs.Math.Path.{refl}
 use Rattle.std.proofs.Common.{sym, ap, ◌∙◌, arith}
 use mathlib.Core.List.{List, [], ◌∷◌, ◌++◌}
@@ -14,7 +14,6 @@ use Rattle.records.specs.Entry.{Entry}
 use Rattle.pending_order.specs.Laws.Moved.{without_there}
 use Rattle.pending_table.specs.declared.Handle.{Handle}
 use Rattle.pending_table.specs.declared.Chosen.{Chosen}
-use Rattle.pending_table.specs.declared.Opened.{Opened}
 use Rattle.pending_table.specs.Operations.{Opens, TakesOut, fits_table}
 
 module _ {A : Type 0} where
@@ -46,7 +45,7 @@ pub taken_others : {h : Handle} {before after : List Entry} {was stands : Handle
 taken_others {h} {before} {after} {was} t g d =
     rw (t.others g) (ap (at_place _) t.left ∙ without_there (was h) (was g) (length after) before (λ e. d (sym e)))
 
-module _ {r : Opened} {e : Entry} {before after : List Entry} {was stands : Handle → ℕ} {marked marks : Chosen → List Bool}
+module _ {r : Handle} {e : Entry} {before after : List Entry} {was stands : Handle → ℕ} {marked marks : Chosen → List Bool}
     (o : Opens r e before after was stands marked marks) where
   -- an entry opened: any handle that had an entry keeps it
   pub opened_others : (g : Handle) → was g < length before → at_place (stands g) after ≡ at_place (was g) before
@@ -56,6 +55,6 @@ module _ {r : Opened} {e : Entry} {before after : List Entry} {was stands : Hand
       go true = ap (at_place (was g)) (pick_yes _ _ _ refl) ∙ there_more (was g) before (e ∷ []) l
       go false = ap (at_place (was g)) (pick_no _ _ _ refl)
 
-  -- and the new handle has the new one
-  pub opened_own : r.fits ≡ true → at_place (stands r.handle) after ≡ some e
-  opened_own y = rw (o.last, o.left, sym o.said, y, pick_yes) (there_last before e)
+  -- and the new handle, where it has an entry, has the new one
+  pub opened_own : ltb (stands r) (length after) ≡ true → at_place (stands r) after ≡ some e
+  opened_own y = rw (o.last, o.left, sym o.said ∙ y, pick_yes) (there_last before e)

@@ -20,7 +20,7 @@ use Rattle.pending_entry.specs.Places.View as entry
 use Rattle.pending_entry.specs.Operations.{bare_entry}
 use Rattle.pending_order.specs.Laws.Walk.{digit_here}
 use Rattle.pending_table.specs.declared.Uses.{Uses}
-use Rattle.pending_table.specs.declared.Pending.{Pending}
+use Rattle.pending_table.specs.Places.View.{State}
 use Rattle.pending_table.specs.Places.View.{view_for, row_at, view_most, place_row, view_taken, view_none}
 use Rattle.pending_table.specs.Places.Room.{counting, both, all_of, room_of}
 use Rattle.pending_table.specs.Operations.{uses_of}
@@ -80,15 +80,15 @@ uses_without i es e h =
     one p = used_without p i es e h ∙ go (p e.cls) (used_by p (without i es))
 
 -- a table has at most 64 entries to count
-pub uses_most : (n : ℕ) (names heads : List (List ℕ)) (recs : List (List (List ℕ))) (numbers : List ℕ) (s : Pending)
+pub uses_most : (n : ℕ) (names heads : List (List ℕ)) (recs : List (List (List ℕ))) (numbers : List ℕ) (s : State)
     → all_of (uses_of (view_for n names heads recs numbers s)) ≤ most_entries
-unfolding all_of uses_of
+unfolding uses_of
 uses_most n names heads recs numbers s =
     omega (arith, used_all (view_for n names heads recs numbers s), view_most n names heads recs numbers s)
 
 -- one more is counted
 pub counting_all : (c : Class) (u : Uses) → all_of (counting c u) ≡ all_of u + 1
-unfolding all_of counting
+unfolding counting
 counting_all alarm u = omega arith
 counting_all monitoring u = omega arith
 counting_all bulk u = omega arith
@@ -117,13 +117,13 @@ unfolding both
 none_both u = rw (zero-add u.alarm, zero-add u.monitoring, zero-add u.bulk, zero-add u.other)
 
 -- what was counted, and what is left to be counted: the entries of the rows `left`, of which `row` is the lowest
-pub record Counting (n : ℕ) (names heads : List (List ℕ)) (recs : List (List (List ℕ))) (numbers : List ℕ) (s : Pending) (u : Uses)
+pub record Counting (n : ℕ) (names heads : List (List ℕ)) (recs : List (List (List ℕ))) (numbers : List ℕ) (s : State) (u : Uses)
     (left row : ℕ) : Type 0 where
   pub at : Lowest most_entries left row
   pub same : both u (uses_of (view_for n names heads recs numbers (record { used = left })))
       ≡ uses_of (view_for n names heads recs numbers s)
 
-module _ (n : ℕ) (names heads : List (List ℕ)) (recs : List (List (List ℕ))) (numbers : List ℕ) (s : Pending) where
+module _ (n : ℕ) (names heads : List (List ℕ)) (recs : List (List (List ℕ))) (numbers : List ℕ) (s : State) where
   -- at the start all are left
   pub counting_start : (row : ℕ) → Lowest most_entries s.used row → Counting n names heads recs numbers s no_uses s.used row
   counting_start row e = record { at = e; same = none_both _ }
@@ -131,7 +131,7 @@ module _ (n : ℕ) (names heads : List (List ℕ)) (recs : List (List (List ℕ)
   module _ (u : Uses) (left row : ℕ) (a : Counting n names heads recs numbers s u left row) where
     -- no more than 64 are counted
     pub counting_room : all_of u ≤ most_entries
-    unfolding all_of both
+    unfolding both
     counting_room = omega (arith, uses_most n names heads recs numbers s, ap all_of a.same)
 
     -- a turn

@@ -1,7 +1,7 @@
 -- What the contracts of the table leave open: nothing that the entries tell. Two outcomes, of one memory or of two with the same
 -- entries, have the same answers, entries, places and marks.
 -- Assumes nothing.
-use Rattle.std.specs.Prelude.{ℕ, ◌<◌, ◌≡◌, Bool, List, length}
+use Rattle.std.specs.Prelude.{ℕ, ◌<◌, ◌≡◌, Bool, List, length, ltb}
 use Rattle.std.proofs.Common.{sym, ◌∙◌}
 use Rattle.laws.specs.Lists.{index_of}
 use Rattle.records.specs.Class.{class_of}
@@ -10,7 +10,8 @@ use Rattle.records.specs.Entry.{Entry, is_known}
 use Rattle.pending_entry.specs.Operations.{bare_entry}
 use Rattle.pending_table.specs.declared.Handle.{Handle}
 use Rattle.pending_table.specs.declared.Chosen.{Chosen}
-use Rattle.pending_table.specs.declared.Opened.{Opened}
+use Rattle.pending_table.specs.declared.Pending.{Pending}
+use Rattle.pending_table.specs.Places.View.{place_of, Stands}
 use Rattle.pending_table.specs.Operations.{Finds, Opens, TakesOut}
 
 -- two handles that are found are the same
@@ -19,9 +20,9 @@ found_one p q = p.own ∙ sym q.own
 
 module _ {e : Entry} {before : List Entry} {was : Handle → ℕ} {marked : Chosen → List Bool} where
   -- two outcomes of opening an entry
-  pub opened_one : {x y : Opened} {after other : List Entry} {stands moved : Handle → ℕ} {marks signs : Chosen → List Bool}
+  pub opened_one : {x y : Handle} {after other : List Entry} {stands moved : Handle → ℕ} {marks signs : Chosen → List Bool}
       → Opens x e before after was stands marked marks → Opens y e before other was moved marked signs
-      → (x.fits ≡ y.fits) × (after ≡ other) × (stands x.handle ≡ moved y.handle)
+      → (ltb (stands x) (length after) ≡ ltb (moved y) (length other)) × (after ≡ other) × (stands x ≡ moved y)
       × ((h : Handle) → was h < length before → stands h ≡ moved h)
   opened_one p q =
       (p.said ∙ sym q.said, p.left ∙ sym q.left, p.last ∙ sym q.last, λ h l. p.others h l ∙ sym (q.others h l))
@@ -59,10 +60,10 @@ pub bare_same : (n : ℕ) {name other : List ℕ} {p q m k : Bool} {c d : ℕ} �
 bare_same n a b c d = rw (a, b, c, d)
 
 -- two outcomes of opening the same entry in two memories
-pub opened_same : {x y : Opened} {e e' : Entry} {before before' after after' : List Entry} {was was' stands stands' : Handle → ℕ}
+pub opened_same : {x y : Handle} {e e' : Entry} {before before' after after' : List Entry} {was was' stands stands' : Handle → ℕ}
     {marked marked' marks marks' : Chosen → List Bool} → e ≡ e' → before ≡ before' → Opens x e before after was stands marked marks
     → Opens y e' before' after' was' stands' marked' marks'
-    → (x.fits ≡ y.fits) × (after ≡ after') × (stands x.handle ≡ stands' y.handle)
+    → (ltb (stands x) (length after) ≡ ltb (stands' y) (length after')) × (after ≡ after') × (stands x ≡ stands' y)
 opened_same a b p q =
     (p.said ∙ rw (a, b) (sym q.said), p.left ∙ rw (a, b) (sym q.left), p.last ∙ rw b (sym q.last))
 
@@ -72,3 +73,17 @@ pub taken_same : {h h' : Handle} {before before' after after' : List Entry} {was
     → TakesOut h before after was stands marked marks
     → TakesOut h' before' after' was' stands' marked' marks' → after ≡ after'
 taken_same a b p q = p.left ∙ rw (a, b) (sym q.left)
+
+-- two tables whose handles and choices stand for the same entries as those of one
+pub stands_one : {p q r : Pending} → Stands p q → Stands p r → Stands q r
+stands_one a b = record {
+  places = λ h. b.places h ∙ sym (a.places h);
+  handles = λ i. b.handles i ∙ sym (a.handles i);
+  choices = λ c. b.choices c ∙ sym (a.choices c);
+  rows = λ h. b.rows h ∙ sym (a.rows h);
+}
+
+-- two tables changed in the entries alone, and two handles that stood at one place
+pub stands_alike : {p q p' q' : Pending} (h h' : Handle) → place_of p h ≡ place_of p' h' → Stands p q → Stands p' q'
+    → place_of q h ≡ place_of q' h'
+stands_alike h h' e a b = a.places h ∙ e ∙ sym (b.places h')

@@ -21,7 +21,7 @@ both u v = record {
 }
 
 -- how many entries were counted
-unfoldable pub all_of : Uses → ℕ
+abbrev pub all_of : Uses → ℕ
 all_of u = u.alarm + u.monitoring + u.bulk + u.other
 
 -- "the sum over the classes of the larger of reserve and use"; what is no class counts in full

@@ -1,7 +1,9 @@
 -- The pending table as the rules have it: entries in the order of opening; a handle's place among them; a choice of them as marks.
 -- No other file can open `view_for`, `place`, `handle_at` and `marks`, so their laws stand here.
 -- Assumes nothing.
-use Rattle.std.specs.Prelude.{ℕ, zero, suc, ◌^◌, ◌≤◌, ◌<◌, ◌≡◌, Bool, ◌&&◌, set}
+use Rattle.std.specs.declared.option.Option as code
+use Rattle.std.specs.Prelude.{ℕ, zero, suc, ◌^◌, ◌≤◌, ◌<◌, ◌≡◌, Bool, ◌&&◌, set, Some, None, IfSome}
+use Rattle.std.specs.Bool.{then_some}
 use Rattle.std.proofs.Math.Path.{refl, sym, ap}
 use Rattle.std.proofs.Common.{subst, ◌∙◌, mod-eq_of_lt, pow_mono}
 use Rattle.std.proofs.Math.Bool.{true, false, and-false, true≢false}
@@ -27,7 +29,6 @@ use Rattle.records.specs.Laws.Place.{place_past}
 use Rattle.records.specs.Class.{class_of, class_number}
 use Rattle.records.specs.Laws.Class.{class_number_lem}
 use Rattle.records.specs.Entry.{Entry}
-use Rattle.rows.specs.Lent.{Lent}
 use Rattle.faces.specs.Laws.Slot.{slots_length}
 use Rattle.pending_entry.specs.Places.View as entry
 use Rattle.pending_order.specs.Order.{rows_of, view_of, place_in}
@@ -43,64 +44,64 @@ use Rattle.pending_table.specs.declared.Handle.{Handle}
 use Rattle.pending_table.specs.declared.Chosen.{Chosen}
 use Rattle.pending_table.specs.Operations.{Finds, Opens, TakesOut, fits_table}
 
+-- which rows are used, a bit each
+pub record State : Type 0 where
+  pub used : ℕ
+
 -- the entry of a row, for n faces
 unfoldable pub row_at : ℕ → List (List ℕ) → List (List ℕ) → List (List (List ℕ)) → ℕ → Entry
 row_at n names heads recs i = entry.view_for n (get_or names i []) (get_or heads i []) (get_or recs i [])
 
 -- the entries, for n faces
-pub view_for : ℕ → List (List ℕ) → List (List ℕ) → List (List (List ℕ)) → List ℕ → Pending → List Entry
+pub view_for : ℕ → List (List ℕ) → List (List ℕ) → List (List (List ℕ)) → List ℕ → State → List Entry
 view_for n names heads recs numbers s = view_of most_entries (row_at n names heads recs) numbers s.used
 
 -- the place of a handle's entry, the number of entries where it has none
-pub place : List ℕ → Pending → Handle → ℕ
+pub place : List ℕ → State → Handle → ℕ
 place numbers s h = place_in h.row (rows_of most_entries numbers s.used)
 
--- the row of a handle's entry, past the last row where it has none
-unfoldable pub row_held : Pending → Handle → ℕ
-row_held s h = pick (member h.row s.used) h.row most_entries
+-- the row of a handle's entry, if it has one
+unfoldable pub row_held : State → Handle → code.Option ℕ
+row_held s h = pick (member h.row s.used && ltb h.row most_entries) (Some h.row) None
 
 -- the handle of the entry at a place, that of no entry past the last
-pub handle_at : List ℕ → Pending → ℕ → Handle
+pub handle_at : List ℕ → State → ℕ → Handle
 handle_at numbers s i = record { row = get_or (rows_of most_entries numbers s.used) i most_entries }
 
 -- for each entry whether it is chosen
-pub marks : List ℕ → Pending → Chosen → List Bool
+pub marks : List ℕ → State → Chosen → List Bool
 marks numbers s c = view_of most_entries (λ t. member t c.rows) numbers s.used
 
--- the entries, for the product's faces
-abbrev pub view : List (List ℕ) → List (List ℕ) → List (List (List ℕ)) → List ℕ → Pending → List Entry
-view = view_for most_faces
+-- what tells which rows are used
+abbrev pub state : Pending → State
+state p = record { used = p.used }
 
--- the entries that a function was lent
-abbrev pub before : Lent (List (List ℕ)) → Lent (List (List ℕ)) → Lent (List (List (List ℕ))) → Lent (List ℕ) → Pending → List Entry
-before names heads recs numbers s = view names.entry heads.entry recs.entry numbers.entry s
+-- the entries of a table, for the product's faces
+abbrev pub view : Pending → List Entry
+view p = view_for most_faces p.names p.heads p.recs p.numbers (state p)
 
--- and the entries as it leaves them
-abbrev pub after : Lent (List (List ℕ)) → Lent (List (List ℕ)) → Lent (List (List (List ℕ))) → Lent (List ℕ) → Pending → List Entry
-after names heads recs numbers s = view names.exit heads.exit recs.exit numbers.exit s
-
--- a handle's place at entry, and at exit
-abbrev pub place_of : Lent (List ℕ) → Pending → Handle → ℕ
-place_of numbers s h = place numbers.entry s h
-
-abbrev pub place_then : Lent (List ℕ) → Pending → Handle → ℕ
-place_then numbers s h = place numbers.exit s h
+-- a handle's place
+abbrev pub place_of : Pending → Handle → ℕ
+place_of p h = place p.numbers (state p) h
 
 -- a handle's entry, if it has one
-abbrev pub entry_at : Lent (List (List ℕ)) → Lent (List (List ℕ)) → Lent (List (List (List ℕ))) → Lent (List ℕ) → Pending → Handle
-    → Option Entry
-entry_at names heads recs numbers s h = at_place (place_of numbers s h) (before names heads recs numbers s)
+abbrev pub entry_at : Pending → Handle → Option Entry
+entry_at p h = at_place (place_of p h) (view p)
 
--- the handle of a place at entry
-abbrev pub handle_of : Lent (List ℕ) → Pending → ℕ → Handle
-handle_of numbers s i = handle_at numbers.entry s i
+-- the handle of a place
+abbrev pub handle_of : Pending → ℕ → Handle
+handle_of p i = handle_at p.numbers (state p) i
 
--- the marks of a choice at entry, and at exit
-abbrev pub marks_of : Lent (List ℕ) → Pending → Chosen → List Bool
-marks_of numbers s c = marks numbers.entry s c
+-- the marks of a choice
+abbrev pub marks_of : Pending → Chosen → List Bool
+marks_of p c = marks p.numbers (state p) c
 
-abbrev pub marks_then : Lent (List ℕ) → Pending → Chosen → List Bool
-marks_then numbers s c = marks numbers.exit s c
+-- handles and choices stand for the same entries in two tables
+pub record Stands (p q : Pending) : Type 0 where
+  pub places : (h : Handle) → place_of q h ≡ place_of p h
+  pub handles : (i : ℕ) → handle_of q i ≡ handle_of p i
+  pub choices : (c : Chosen) → marks_of q c ≡ marks_of p c
+  pub rows : (h : Handle) → row_held (state q) h ≡ row_held (state p) h
 
 -- the element at a place of a list
 at_get_d : {A : Type 0} (i : ℕ) (l : List A) (d : A) → i < length l → at_place i l ≡ some (get_or l i d)
@@ -128,7 +129,7 @@ pub view_empty : (n : ℕ) (names heads : List (List ℕ)) (recs : List (List (L
     → view_for n names heads recs numbers (record { used = 0 }) ≡ []
 view_empty n names heads recs numbers = view_none n names heads recs numbers 0 (λ t _. (member_no t 0).1 (digit_zero t))
 
-module _ (n : ℕ) (names heads : List (List ℕ)) (recs : List (List (List ℕ))) (numbers : List ℕ) (s : Pending) where
+module _ (n : ℕ) (names heads : List (List ℕ)) (recs : List (List (List ℕ))) (numbers : List ℕ) (s : State) where
   -- there are as many entries as rows used
   pub view_length : s.used < 2 ^ most_entries → length (view_for n names heads recs numbers s) ≡ ones s.used
   unfolding view_for
@@ -173,21 +174,44 @@ module _ (n : ℕ) (names heads : List (List ℕ)) (recs : List (List (List ℕ)
       → place numbers s g < length (view_for n names heads recs numbers s) → g ≡ h
   place_one g h e l = place_own g l ∙ ap (handle_at numbers s) e ∙ sym (place_own h (omega arith))
 
+  -- a used row is one of the table's
+  pub row_within : (h : Handle) → s.used < 2 ^ most_entries → member h.row s.used ≡ true → h.row < most_entries
+  row_within h k y = go (ltb h.row most_entries) refl
+    where
+      go : (b : Bool) → ltb h.row most_entries ≡ b → h.row < most_entries
+      go true e = ltb-true h.row most_entries e
+      go false e =
+          let l = ltb-false h.row most_entries e in
+          absurd (true≢false (sym y ∙ (member_no h.row s.used).1
+          (digit_high h.row s.used (omega (arith, pow_mono {i = most_entries} {j = h.row} l)))))
+
+  -- a handle's row, where it is used, is that of its entry
+  pub row_used : (h : Handle) → s.used < 2 ^ most_entries → then_some (member h.row s.used) h.row ≡ row_held s h
+  unfolding row_held pick
+  row_used h k = go (member h.row s.used) refl
+    where
+      go : (b : Bool) → member h.row s.used ≡ b → then_some (member h.row s.used) h.row ≡ row_held s h
+      go true y = rw (y, lt-ltb h.row most_entries (row_within h k y))
+      go false y = rw y
+
+  -- which is one of the table's
+  pub row_fits : (h : Handle) → IfSome (row_held s h) (λ i. i < most_entries)
+  unfolding row_held pick
+  row_fits h = go (member h.row s.used) (ltb h.row most_entries) refl
+    where
+      go : (a b : Bool) → ltb h.row most_entries ≡ b → IfSome (pick (a && b) (Some h.row) None) (λ i. i < most_entries)
+      go true true e = ltb-true h.row most_entries e
+      go true false e = tt
+      go false b e = tt
+
   -- whether a handle has an entry is whether its row is used
   pub place_used : (h : Handle) → s.used < 2 ^ most_entries
       → member h.row s.used ≡ ltb (place numbers s h) (length (view_for n names heads recs numbers s))
   place_used h k = go (member h.row s.used) refl
     where
-      few : member h.row s.used ≡ true → (b : Bool) → ltb h.row most_entries ≡ b → h.row < most_entries
-      few y true e = ltb-true h.row most_entries e
-      few y false e =
-          let l = ltb-false h.row most_entries e in
-          absurd (true≢false (sym y ∙ (member_no h.row s.used).1
-          (digit_high h.row s.used (omega (arith, pow_mono {i = most_entries} {j = h.row} l)))))
-
       go : (b : Bool) → member h.row s.used ≡ b
           → member h.row s.used ≡ ltb (place numbers s h) (length (view_for n names heads recs numbers s))
-      go true y = y ∙ sym (lt-ltb _ _ (place_there h (few y (ltb h.row most_entries) refl) y))
+      go true y = y ∙ sym (lt-ltb _ _ (place_there h (row_within h k y) y))
       go false y =
           let e = place_not h (λ q. true≢false (sym q.1 ∙ y)) in
           y ∙ sym (le-ltb (place numbers s h) (length (view_for n names heads recs numbers s)) (omega arith))
@@ -230,72 +254,77 @@ module _ (n : ℕ) (names heads : List (List ℕ)) (recs : List (List (List ℕ)
   place_past_last h k = place_past (view_for n names heads recs numbers s) (place numbers s h) (omega (arith, place_not h k))
 
   -- the row of a handle that has an entry
-  module _ (h : Handle) (i : ℕ) (e : i ≡ row_held s h) where
-    -- below the number of rows it is a used row
-    row_there : i < most_entries → (i ≡ h.row) × (member h.row s.used ≡ true)
-    unfolding row_held
-    row_there l = go (member h.row s.used) refl
+  module _ (h : Handle) (i : ℕ) (e : row_held s h ≡ Some i) where
+    -- it is the handle's, one of the rows, and used
+    row_there : (i ≡ h.row) × (i < most_entries) × (member h.row s.used ≡ true)
+    unfolding row_held pick
+    row_there = go (member h.row s.used) (ltb h.row most_entries) refl refl
       where
-        go : (b : Bool) → member h.row s.used ≡ b → (i ≡ h.row) × (member h.row s.used ≡ true)
-        go true y = (e ∙ pick_yes _ _ _ y, y)
-        go false y = absurd (omega (arith, e ∙ pick_no _ _ _ y))
-
-    -- else there is none
-    row_not : most_entries ≤ i → (h.row < most_entries) × (member h.row s.used ≡ true) → ⊥
-    unfolding row_held
-    row_not l q = omega (arith, q.0, e ∙ pick_yes _ _ _ q.1)
+        go : (a b : Bool) → member h.row s.used ≡ a → ltb h.row most_entries ≡ b
+            → (i ≡ h.row) × (i < most_entries) × (member h.row s.used ≡ true)
+        go true true y z =
+            let k : ◌≡◌ {A = code.Option ℕ} (Some h.row) (Some i) = rw (y, z) at e in
+            let same : h.row ≡ i = cc in
+            (sym same, rw (← same) (ltb-true h.row most_entries z), y)
+        go true false y z = let k : ◌≡◌ {A = code.Option ℕ} None (Some i) = rw (y, z) at e in absurd cc
+        go false b y z = let k : ◌≡◌ {A = code.Option ℕ} None (Some i) = rw y at e in absurd cc
 
     -- the handle's entry is that of its row
-    pub entry_there : i < most_entries
-        → at_place (place numbers s h) (view_for n names heads recs numbers s) ≡ some (row_at n names heads recs i)
-    entry_there l = let k = row_there l in rw k.0 (place_row h (omega (arith, k.0)) k.1)
-
-    -- where its row is none, there is none
-    pub entry_none : most_entries ≤ i → at_place (place numbers s h) (view_for n names heads recs numbers s) ≡ none
-    entry_none l = place_past_last h (row_not l)
+    pub entry_there : at_place (place numbers s h) (view_for n names heads recs numbers s) ≡ some (row_at n names heads recs i)
+    entry_there = let k = row_there in rw k.0 (place_row h (omega (arith, k.0, k.1)) k.2)
 
     -- what the row says is said of the handle's entry
-    pub said_of : {B : Type 0} (d : B) (g : Entry → B) {r : B} → i < most_entries → r ≡ g (row_at n names heads recs i)
+    pub said_of : {B : Type 0} (d : B) (g : Entry → B) {r : B} → r ≡ g (row_at n names heads recs i)
         → r ≡ given d g (at_place (place numbers s h) (view_for n names heads recs numbers s))
     unfolding given
-    said_of d g l q = rw (entry_there l) q
-
-    -- where there is none, d is said
-    pub said_none : {B : Type 0} (d : B) (g : Entry → B) → most_entries ≤ i
-        → d ≡ given d g (at_place (place numbers s h) (view_for n names heads recs numbers s))
-    unfolding given
-    said_none d g l = rw (entry_none l)
-
-    -- a change of no entry changes nothing
-    pub changed_none : (g : Entry → Entry) → most_entries ≤ i
-        → view_for n names heads recs numbers s ≡ on_at (place numbers s h) g (view_for n names heads recs numbers s)
-    changed_none g l = sym (on_at_out _ g _ (omega (arith, place_not h (row_not l))))
+    said_of d g q = rw entry_there q
 
     -- a row's head and records stored: its entry is changed
     pub view_on : (hd : List ℕ) (r : List (List ℕ)) (g : Entry → Entry) → length heads ≡ most_entries → length recs ≡ most_entries
-        → i < most_entries
         → ((nm : List ℕ) → entry.view_for n nm hd r ≡ g (entry.view_for n nm (get_or heads i []) (get_or recs i [])))
         → view_for n names (set heads i hd) (set recs i r) numbers s
         ≡ on_at (place numbers s h) g (view_for n names heads recs numbers s)
     unfolding view_for place row_at
-    view_on hd r g a b l q =
-        rw (← (row_there l).0)
+    view_on hd r g a b q =
+        let l = row_there.1 in
+        rw (← row_there.0)
         (table.view_on most_entries (row_at n names heads recs) (row_at n names (set heads i hd) (set recs i r)) numbers s.used i g
         (rw (get_or-set_same heads i hd [] (omega arith), get_or-set_same recs i r [] (omega arith)) (q (get_or names i [])))
         (λ k m. rw (get_or-set_other heads i k hd [] m, get_or-set_other recs i k r [] m)))
 
     -- only a row's head stored
-    pub view_on_head : (hd : List ℕ) (g : Entry → Entry) → length heads ≡ most_entries → length recs ≡ most_entries → i < most_entries
+    pub view_on_head : (hd : List ℕ) (g : Entry → Entry) → length heads ≡ most_entries → length recs ≡ most_entries
         → ((nm : List ℕ) → entry.view_for n nm hd (get_or recs i []) ≡ g (entry.view_for n nm (get_or heads i []) (get_or recs i [])))
         → view_for n names (set heads i hd) recs numbers s ≡ on_at (place numbers s h) g (view_for n names heads recs numbers s)
-    view_on_head hd g a b l q = rw (set-get_or recs i []) at (view_on hd (get_or recs i []) g a b l q)
+    view_on_head hd g a b q = rw (set-get_or recs i []) at (view_on hd (get_or recs i []) g a b q)
 
     -- only a row's records stored
     pub view_on_records : (r : List (List ℕ)) (g : Entry → Entry) → length heads ≡ most_entries → length recs ≡ most_entries
-        → i < most_entries
         → ((nm : List ℕ) → entry.view_for n nm (get_or heads i []) r ≡ g (entry.view_for n nm (get_or heads i []) (get_or recs i [])))
         → view_for n names heads (set recs i r) numbers s ≡ on_at (place numbers s h) g (view_for n names heads recs numbers s)
-    view_on_records r g a b l q = rw (set-get_or heads i []) at (view_on (get_or heads i []) r g a b l q)
+    view_on_records r g a b q = rw (set-get_or heads i []) at (view_on (get_or heads i []) r g a b q)
+
+  -- a handle without a row
+  module _ (h : Handle) (e : row_held s h ≡ None) where
+    -- its row is not one that is used
+    row_not : (h.row < most_entries) × (member h.row s.used ≡ true) → ⊥
+    unfolding row_held pick
+    row_not q = let k : ◌≡◌ {A = code.Option ℕ} (Some h.row) None = rw (q.1, lt-ltb h.row most_entries q.0) at e in cc
+
+    -- it has no entry
+    pub entry_none : at_place (place numbers s h) (view_for n names heads recs numbers s) ≡ none
+    entry_none = place_past_last h row_not
+
+    -- d is said
+    pub said_none : {B : Type 0} (d : B) (g : Entry → B)
+        → d ≡ given d g (at_place (place numbers s h) (view_for n names heads recs numbers s))
+    unfolding given
+    said_none d g = rw entry_none
+
+    -- a change of no entry changes nothing
+    pub changed_none : (g : Entry → Entry) → view_for n names heads recs numbers s
+        ≡ on_at (place numbers s h) g (view_for n names heads recs numbers s)
+    changed_none g = sym (on_at_out _ g _ (omega (arith, place_not h row_not)))
 
   -- a name stored as it was changes nothing
   pub view_kept : (i : ℕ) (nm : List ℕ) → nm ≡ get_or names i []
@@ -346,12 +375,12 @@ module _ (n : ℕ) (names heads : List (List ℕ)) (recs : List (List (List ℕ)
   marks_where c q e =
       table.view_map most_entries (row_at n names heads recs) numbers s.used (λ t. member t c.rows) q (λ t l m. e t l ∙ rw m)
 
-module _ (n : ℕ) (names heads : List (List ℕ)) (recs : List (List (List ℕ))) (numbers : List ℕ) (s : Pending) (e : Entry) where
+module _ (n : ℕ) (names heads : List (List ℕ)) (recs : List (List (List ℕ))) (numbers : List ℕ) (s : State) (e : Entry) where
   -- a name and a head stored in a free row, which is opened as the last: an entry more
   opens_at : (row more : ℕ) (nm h others : List ℕ) → order.Opens most_entries numbers others s.used row more → row < most_entries
       → length e.name ≤ most_name → length names ≡ most_entries → length heads ≡ most_entries
       → entry.view_for n nm h (get_or recs row []) ≡ e
-      → Opens (record { fits = true; pending = record { used = more }; handle = record { row = row } }) e
+      → Opens (record { row = row }) e
       (view_for n names heads recs numbers s)
       (view_for n (set names row nm) (set heads row h) recs others (record { used = more }))
       (place numbers s) (place others (record { used = more })) (marks numbers s) (marks others (record { used = more }))
@@ -371,7 +400,16 @@ module _ (n : ℕ) (names heads : List (List ℕ)) (recs : List (List (List ℕ)
             (omega (arith, ap length last, rows_most most_entries others more, length-append rows (row ∷ []))),
       ) in
       record {
-        said = sym fits;
+        said = rw fits (lt-ltb (place_in row (rows_of most_entries others more)) (length (view_of most_entries g' others more))
+            (omega (
+              arith,
+              ap length last,
+              table.view_rows most_entries g' others more,
+              length-append rows (row ∷ []),
+              count,
+              ap (place_in row) last,
+              place_last row rows (table.view_out most_entries g numbers s.used row (λ q. true≢false (sym q.1 ∙ unused)) ∙ count),
+            )));
         left = rw (fits, pick_yes)
             (table.view_opened most_entries g g' numbers s.used row others more unused last
             (λ t m. rw (get_or-set_other names row t nm [] m, get_or-set_other heads row t h [] m)) ∙ rw here);
@@ -391,7 +429,7 @@ module _ (n : ℕ) (names heads : List (List ℕ)) (recs : List (List (List ℕ)
       → order.Opens most_entries numbers others s.used row' more → row < most_entries
       → length e.name ≤ most_name → length names ≡ most_entries → length heads ≡ most_entries
       → entry.view_for n nm h (get_or recs row []) ≡ e
-      → Opens (record { fits = true; pending = record { used = more }; handle = record { row = row } }) e
+      → Opens (record { row = row }) e
       (view_for n names heads recs numbers s)
       (view_for n (set names row nm) (set heads row h) recs others (record { used = more }))
       (place numbers s) (place others (record { used = more })) (marks numbers s) (marks others (record { used = more }))
@@ -400,10 +438,10 @@ module _ (n : ℕ) (names heads : List (List ℕ)) (recs : List (List (List ℕ)
   -- what does not fit changes nothing
   opens_none : (after : List Entry) → fits_table e (view_for n names heads recs numbers s) ≡ false
       → after ≡ view_for n names heads recs numbers s
-      → Opens (record { fits = false; pending = s; handle = record { row = most_entries } }) e (view_for n names heads recs numbers s) after
+      → Opens (record { row = most_entries }) e (view_for n names heads recs numbers s) after
       (place numbers s) (place numbers s) (marks numbers s) (marks numbers s)
   opens_none after f q = record {
-    said = sym f;
+    said = rw (f, q) (le-ltb _ _ (omega (arith, place_none n names heads recs numbers s)));
     left = q ∙ rw (f, pick_no);
     last = place_none n names heads recs numbers s;
     others = λ _ _. refl;
@@ -412,7 +450,7 @@ module _ (n : ℕ) (names heads : List (List ℕ)) (recs : List (List (List ℕ)
 
   -- a name that is longer than a row
   pub opens_long : (row : ℕ) (nm : List ℕ) → most_name < length e.name → nm ≡ get_or names row []
-      → Opens (record { fits = false; pending = s; handle = record { row = most_entries } }) e (view_for n names heads recs numbers s)
+      → Opens (record { row = most_entries }) e (view_for n names heads recs numbers s)
       (view_for n (set names row nm) heads recs numbers s) (place numbers s) (place numbers s) (marks numbers s) (marks numbers s)
   unfolding fits_table
   opens_long row nm h q =
@@ -420,7 +458,7 @@ module _ (n : ℕ) (names heads : List (List ℕ)) (recs : List (List (List ℕ)
 
   -- a full table
   pub opens_full : most_entries ≤ free_of most_entries s.used
-      → Opens (record { fits = false; pending = s; handle = record { row = most_entries } }) e (view_for n names heads recs numbers s)
+      → Opens (record { row = most_entries }) e (view_for n names heads recs numbers s)
       (view_for n names heads recs numbers s) (place numbers s) (place numbers s) (marks numbers s) (marks numbers s)
   unfolding fits_table
   opens_full h = opens_none _
@@ -431,7 +469,7 @@ module _ (n : ℕ) (names heads : List (List ℕ)) (recs : List (List (List ℕ)
           omega (arith, table.view_rows most_entries (row_at n names heads recs) numbers s.used, rows_full most_entries numbers s.used h)
 
 -- a choice without a row
-pub marks_rest : (numbers : List ℕ) (s : Pending) (c : Chosen) (h : Handle) (u : ℕ) → u ≡ removed h.row c.rows
+pub marks_rest : (numbers : List ℕ) (s : State) (c : Chosen) (h : Handle) (u : ℕ) → u ≡ removed h.row c.rows
     → marks numbers s (record { rows = u }) ≡ on_at (place numbers s h) (λ _. false) (marks numbers s c)
 unfolding marks place
 marks_rest numbers s c h u e =
@@ -441,7 +479,7 @@ marks_rest numbers s c h u e =
     (member_remove_same h.row c.rows) (λ t d. member_remove_other h.row c.rows t d))
 
 -- the first chosen row is the handle of the first mark
-pub marks_next : (numbers : List ℕ) (s : Pending) (c : Chosen) (row : ℕ) → row ≡ least_of most_entries numbers (bit_and s.used c.rows)
+pub marks_next : (numbers : List ℕ) (s : State) (c : Chosen) (row : ℕ) → row ≡ least_of most_entries numbers (bit_and s.used c.rows)
     → Finds (place numbers s) (handle_at numbers s) (index_of (λ b. b) (marks numbers s c)) (record { row = row })
 unfolding marks place handle_at
 marks_next numbers s c row e =
@@ -452,3 +490,16 @@ marks_next numbers s c row e =
       own = rw e (ap (λ (r : ℕ). record { row = r })
           (table.view_first most_entries g numbers s.used u (λ b. b) (λ t _. member_and t s.used c.rows)));
     }
+
+-- a table has at most as many entries as it has rows
+pub view_few : (p : Pending) → length (view p) ≤ most_entries
+view_few p = view_most most_faces p.names p.heads p.recs p.numbers (state p)
+
+-- its entries have a slot for each face
+pub view_faces : (p : Pending) (i : ℕ) (e : Entry) → at_place i (view p) ≡ some e
+    → (length e.requests ≡ most_faces) × (length e.sent ≡ most_faces)
+view_faces p = view_wide most_faces p.names p.heads p.recs p.numbers (state p)
+
+-- and their classes are what their numbers say
+pub view_classes : (p : Pending) (i : ℕ) (e : Entry) → at_place i (view p) ≡ some e → class_of (class_number e.cls) ≡ e.cls
+view_classes p = view_said most_faces p.names p.heads p.recs p.numbers (state p)

@@ -1,7 +1,7 @@
 -- Reading a packet refuses it by 4, 5 or 6 and by no other answer: by 4 where the packet is too long, else by 5 or 6, else by 4 exactly
 -- where its name is too long.
 -- Assumes nothing.
-use Rattle.std.specs.Prelude.{ℕ, ◌≡◌, refl, ◌⊎◌, Bool, true, false, ◌||◌, List, [], length, ltb, eqb}
+use Rattle.std.specs.Prelude.{ℕ, ◌≡◌, refl, ◌⊎◌, Bool, true, false, ◌||◌, List, [], length, ltb, eqb, None, Option, Some}
 use Rattle.std.proofs.Common.{◌∙◌, ap, inl, inr}
 use Rattle.answers.specs.declared.Answer.{Answer}
 use Rattle.laws.specs.Pick.{pick}
@@ -17,7 +17,6 @@ use Rattle.names.specs.Name.{counted}
 use Rattle.grammar.specs.Types.{interest, dat, meta_info as meta, fragment, lp_packet as lp, nack}
 use Rattle.grammar.specs.Table.{table, row_of, outer}
 use Rattle.grammar.specs.Walk.{Field, absent, here, Fields, walked}
-use Rattle.packethead.specs.declared.header.Nacked.{Nacked}
 use Rattle.packethead.specs.Header.{Came, val, bytes_in, missing, nacked_by, fragment_read, lp_fields, lp_read, outer_read, header_read}
 use Rattle.packethead.specs.Header as header
 use Rattle.packets.specs.Bare.{Reading, asks, brings, nacks, asked_by, sized, named_interest, interest_read, named_data, data_read, data_value, data_unless, kind_read, bare_read}
@@ -61,10 +60,10 @@ unsupported : (b : Bool) → Judged b (bare.refused Answer.Unsupported)
 unsupported b = inr (inl refl)
 
 -- an Interest, or a Nack
-asked_judged : (k : Nacked) (f : Fields) (b : Bool) → b ≡ false → Judged b (asked_by k f)
+asked_judged : (k : Option ℕ) (f : Fields) (b : Bool) → b ≡ false → Judged b (asked_by k f)
 unfolding asked_by
-asked_judged Nacked.No f b e = e
-asked_judged (Nacked.Reason n) f b e = e
+asked_judged None f b e = e
+asked_judged (Some n) f b e = e
 
 -- by the size of the name
 sized_judged : (name : List ℕ) (n : ℕ) (r : Reading) → ((b : Bool) → b ≡ false → Judged b r) → Judged (ltb most_name (length name) || ltb most_components n) (sized name n r)
@@ -77,7 +76,7 @@ sized_judged name n r h = go (ltb most_name (length name)) (ltb most_components 
     go false false = h false refl
 
 -- an Interest by what its name says
-named_interest_judged : (k : Nacked) (m : Bool) (f : Fields) (c : Counted) → Judged (over_size (bytes_in (val f 1)) c) (named_interest k m f c)
+named_interest_judged : (k : Option ℕ) (m : Bool) (f : Fields) (c : Counted) → Judged (over_size (bytes_in (val f 1)) c) (named_interest k m f c)
 unfolding named_interest over_size
 named_interest_judged k m f c =
     let b = over_size (bytes_in (val f 1)) c in
@@ -89,7 +88,7 @@ named_interest_judged k m f c =
     (λ y. rw (said_fine c.said x y) (sized_judged (bytes_in (val f 1)) c.count (asked_by k f) (asked_judged k f)))))))
 
 -- an Interest by its elements, whose name is found where nothing is 5 and it is there
-interest_judged : (k : Nacked) (m : Bool) (f : Fields) (name : List ℕ)
+interest_judged : (k : Option ℕ) (m : Bool) (f : Fields) (name : List ℕ)
     → (is_malformed f.said ≡ false → missing (val f 1) ≡ false → name ≡ bytes_in (val f 1)) → Judged (is_long name) (interest_read k m f)
 unfolding interest_read is_long
 interest_judged k m f name h =
@@ -123,13 +122,13 @@ data_judged m f g name h =
     (λ _. rw (h x y) (named_data_judged m f g (counted (bytes_in (val f 1)))))))))
 
 -- a Data, unless there is a Nack
-unless_judged : (k : Nacked) (b : Bool) (r : Reading) → Judged b r → Judged b (data_unless k r)
+unless_judged : (k : Option ℕ) (b : Bool) (r : Reading) → Judged b r → Judged b (data_unless k r)
 unfolding data_unless
-unless_judged Nacked.No b r h = h
-unless_judged (Nacked.Reason n) b r h = malformed b
+unless_judged None b r h = h
+unless_judged (Some n) b r h = malformed b
 
 -- an Interest or a Data, by the type
-kind_judged : (k : Nacked) (m : Bool) (t : ℕ) (v : List ℕ) → Judged (is_long (name_in v)) (kind_read k m t v)
+kind_judged : (k : Option ℕ) (m : Bool) (t : ℕ) (v : List ℕ) → Judged (is_long (name_in v)) (kind_read k m t v)
 unfolding kind_read data_value
 kind_judged k m t v =
     let b = is_long (name_in v) in
@@ -141,7 +140,7 @@ kind_judged k m t v =
     (λ _. malformed b))
 
 -- a bare packet
-bare_judged : (k : Nacked) (m : Bool) (l : List ℕ) → Judged (is_long (name_of l)) (bare_read k m l)
+bare_judged : (k : Option ℕ) (m : Bool) (l : List ℕ) → Judged (is_long (name_of l)) (bare_read k m l)
 unfolding bare_read name_of
 bare_judged k m l = go (element l)
   where
@@ -161,7 +160,7 @@ Fine (header.refused a) = (a ≡ Answer.Malformed) ⊎ (a ≡ Answer.Unsupported
 Fine (header.bare b) = Unit {0}
 
 -- by the Fragment
-fragment_fine : (x : Field) (k : Nacked) (m : Bool) → Fine (fragment_read x k m)
+fragment_fine : (x : Field) (k : Option ℕ) (m : Bool) → Fine (fragment_read x k m)
 unfolding fragment_read
 fragment_fine absent k m = inr refl
 fragment_fine (here v j) k m = tt

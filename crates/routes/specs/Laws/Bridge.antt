@@ -29,33 +29,33 @@ module _ (n : ℕ) (p : ℕ → Bool) where
   unfolding cheapest_of
   cheapest_where r e = least_where n p (λ (c : ℕ). c) r.hops e
 
-  module _ (names heads costs : List (List ℕ)) (s : Routes) where
+  module _ (t : Routes) where
     -- the same for the route at a place
     pub place_cheapest : (i : ℕ)
-        → given none (cheapest_of (has_face n (faces_where n p))) (at_place i (view_for n names heads costs s))
-        ≡ given none (cheapest_of p) (at_place i (view_for n names heads costs s))
+        → given none (cheapest_of (has_face n (faces_where n p))) (at_place i (view_for n t))
+        ≡ given none (cheapest_of p) (at_place i (view_for n t))
     unfolding given
-    place_cheapest i = go (at_place i (view_for n names heads costs s)) refl
+    place_cheapest i = go (at_place i (view_for n t)) refl
       where
-        go : (o : Option Route) → at_place i (view_for n names heads costs s) ≡ o
+        go : (o : Option Route) → at_place i (view_for n t) ≡ o
             → given none (cheapest_of (has_face n (faces_where n p))) o ≡ given none (cheapest_of p) o
         go none e = refl
-        go (some r) e = cheapest_where r (view_hops n names heads costs s i r e)
+        go (some r) e = cheapest_where r (view_hops n t i r e)
 
     -- and for the longest matching route, where it was found
     pub longest_cheapest : (name : List ℕ)
         → given none (cheapest_of (has_face n (faces_where n p)))
-        (at_place (longest_at name (view_for n names heads costs s)) (view_for n names heads costs s))
-        ≡ given none (cheapest_of p) (longest name (view_for n names heads costs s))
+        (at_place (longest_at name (view_for n t)) (view_for n t))
+        ≡ given none (cheapest_of p) (longest name (view_for n t))
     longest_cheapest name =
-        place_cheapest (longest_at name (view_for n names heads costs s))
-        ∙ ap (given none (cheapest_of p)) (longest_place name (view_for n names heads costs s))
+        place_cheapest (longest_at name (view_for n t))
+        ∙ ap (given none (cheapest_of p)) (longest_place name (view_for n t))
 
-module _ (n : ℕ) (names heads costs : List (List ℕ)) (s : Routes) where
+module _ (n : ℕ) (t : Routes) where
   -- the class word of the longest matching route says its class
-  pub longest_class : (name : List ℕ) (r : Route) → longest name (view_for n names heads costs s) ≡ some r → class_of (class_word r) ≡ r.cls
+  pub longest_class : (name : List ℕ) (r : Route) → longest name (view_for n t) ≡ some r → class_of (class_word r) ≡ r.cls
   unfolding class_word
-  longest_class name r e = view_class n names heads costs s _ r (longest_place name (view_for n names heads costs s) ∙ e)
+  longest_class name r e = view_class n t _ r (longest_place name (view_for n t) ∙ e)
 
 -- there is an element at a place exactly where the place is below the length: a prefix that is found is known
 pub there_less : {A : Type 0} (i : ℕ) (l : List A) → is_some (at_place i l) ≡ ltb i (length l)

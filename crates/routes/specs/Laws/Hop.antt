@@ -5,7 +5,7 @@ use Rattle.std.specs.Prelude.{◌≡◌, Bool, ◌&&◌, ◌≢◌}
 use Rattle.std.proofs.Math.Path.{refl, sym}
 use Rattle.std.proofs.Common.{◌∙◌, arith, add-one}
 use Rattle.std.proofs.Math.Bool.{true, false}
-use mathlib.Core.List.{List, [], ◌∷◌}
+use mathlib.Core.List.{List, ◌∷◌}
 use Rattle.std.proofs.Math.Option.{Option, none, some}
 use Rattle.std.proofs.Math.ListN.{get_or}
 use Rattle.laws.specs.Pick.{pick}
@@ -20,40 +20,38 @@ use Rattle.records.specs.Face.{is_face}
 use Rattle.records.specs.Slots.{Held, given, slot, is_some, held, held_from, only, less_by, least_by, least_face}
 use Rattle.records.specs.Laws.Least.{less_next, less_stays}
 use Rattle.records.specs.Route.{with_hop, cheapest_of}
+use Rattle.routes.specs.declared.Row.{Row}
 use Rattle.routes.specs.Places.View.{route_row}
 use Rattle.routes.specs.Operations.{hops_of}
 use Rattle.routes.specs.Places.Hop.{least_of}
 
-module _ (n f : ℕ) (name head : List ℕ) where
+module _ (n f : ℕ) (r : Row) where
   -- a hop put in, or its cost changed
-  pub row_put : (cost : ℕ) (costs costs' : List ℕ) → is_face n f ≡ true → get_or costs' (f - 1) 0 ≡ cost
-      → ((i : ℕ) → i ≢ f - 1 → get_or costs' i 0 ≡ get_or costs i 0)
-      → route_row n name (get_or head 0 0 ∷ get_or head 1 0 ∷ with_face n (get_or head 2 0) f ∷ []) costs'
-      ≡ with_hop f (some cost) (route_row n name head costs)
+  pub row_put : (cost : ℕ) (costs : List ℕ) → is_face n f ≡ true → get_or costs (f - 1) 0 ≡ cost
+      → ((i : ℕ) → i ≢ f - 1 → get_or costs i 0 ≡ get_or r.costs i 0)
+      → route_row n (record r { hops = with_face n r.hops f; costs = costs }) ≡ with_hop f (some cost) (route_row n r)
   unfolding route_row with_hop
-  row_put cost costs costs' q e o = rw (slots_put n (get_or head 2 0) (λ i. get_or costs i 0) f cost (λ i. get_or costs' i 0) q e o)
+  row_put cost costs q e o = rw (slots_put n r.hops (λ i. get_or r.costs i 0) f cost (λ i. get_or costs i 0) q e o)
 
   -- a hop taken out; a number that is no face takes none out
-  pub row_take : (costs : List ℕ) → route_row n name (get_or head 0 0 ∷ get_or head 1 0 ∷ minus_face n (get_or head 2 0) f ∷ []) costs
-      ≡ with_hop f none (route_row n name head costs)
+  pub row_take : route_row n (record r { hops = minus_face n r.hops f }) ≡ with_hop f none (route_row n r)
   unfolding route_row with_hop
-  row_take costs = rw (slots_minus n (get_or head 2 0) (λ i. get_or costs i 0) f)
+  row_take = rw (slots_minus n r.hops (λ i. get_or r.costs i 0) f)
 
   -- a number that is no face sets no hop
-  pub row_past : (x : Option ℕ) (costs : List ℕ) → is_face n f ≡ false → route_row n name head costs
-      ≡ with_hop f x (route_row n name head costs)
+  pub row_past : (x : Option ℕ) → is_face n f ≡ false → route_row n r ≡ with_hop f x (route_row n r)
   unfolding route_row with_hop
-  row_past x costs e = rw (slots_past n (get_or head 2 0) (λ i. get_or costs i 0) f x e)
+  row_past x e = rw (slots_past n r.hops (λ i. get_or r.costs i 0) f x e)
 
   -- whether a face is in the set of hops
-  pub row_has : (costs : List ℕ) → has_face n (get_or head 2 0) f ≡ is_some (slot f (route_row n name head costs).hops)
+  pub row_has : has_face n r.hops f ≡ is_some (slot f (route_row n r).hops)
   unfolding route_row
-  row_has costs = sym (slots_has n (get_or head 2 0) (λ i. get_or costs i 0) f)
+  row_has = sym (slots_has n r.hops (λ i. get_or r.costs i 0) f)
 
--- the set of the hops is what the faces of the head's set are
-pub row_hops : (n : ℕ) (name head costs : List ℕ) → hops_of n (route_row n name head costs) ≡ faces_where n (has_face n (get_or head 2 0))
+-- the set of the hops is what the faces of the row's set are
+pub row_hops : (n : ℕ) (r : Row) → hops_of n (route_row n r) ≡ faces_where n (has_face n r.hops)
 unfolding route_row hops_of
-row_hops n name head costs = slots_set n (get_or head 2 0) (λ i. get_or costs i 0) ∙ sym (where_mod n (get_or head 2 0))
+row_hops n r = slots_set n r.hops (λ i. get_or r.costs i 0) ∙ sym (where_mod n r.hops)
 
 -- the least for all faces is that of the best so far and those left
 pub record Least (n : ℕ) (g : ℕ → ℕ) (all left best cost : ℕ) : Type 0 where
@@ -116,15 +114,15 @@ face_given none = refl
 face_given (some h) = refl
 
 -- the cheapest hop in a set is the least of the faces in both sets
-pub row_cheapest : (n set : ℕ) (name head costs : List ℕ)
-    → given 0 (λ f. f) (cheapest_of (has_face n set) (route_row n name head costs))
-    ≡ given 0 (λ h. h.face) (least_of n (λ i. get_or costs i 0) (faces_where n (λ f. has_face n (get_or head 2 0) f && has_face n set f)))
+pub row_cheapest : (n set : ℕ) (r : Row)
+    → given 0 (λ f. f) (cheapest_of (has_face n set) (route_row n r))
+    ≡ given 0 (λ h. h.face) (least_of n (λ i. get_or r.costs i 0) (faces_where n (λ f. has_face n r.hops f && has_face n set f)))
 unfolding cheapest_of least_face route_row least_of held slots_of
-row_cheapest n set name head costs =
-    let both : (ℕ → Bool) = (λ f. has_face n (get_or head 2 0) f && has_face n set f) in
+row_cheapest n set r =
+    let both : (ℕ → Bool) = (λ f. has_face n r.hops f && has_face n set f) in
     face_given _
-    ∙ rw (only_from (λ i. get_or costs i 0) (get_or head 2 0) (faces_where n both) (has_face n set) 0 n
+    ∙ rw (only_from (λ i. get_or r.costs i 0) r.hops (faces_where n both) (has_face n set) 0 n
     (λ k _ l.
     sym (has_after n (faces_where n both) k (omega arith))
     ∙ where_has n (k + 1) both ((face_yes n (k + 1)).1 (omega arith, omega arith))
-    ∙ rw (has_after n (get_or head 2 0) k (omega arith), add-one k)))
+    ∙ rw (has_after n r.hops k (omega arith), add-one k)))

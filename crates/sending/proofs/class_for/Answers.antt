@@ -9,6 +9,6 @@ returns-then-is_there c =
     class_in _ _ _ c.longest-route.ensures _ (sym c.is_there.ensures ∙ c.if-is_there.true)
     c.class_of.ensures
 
-pub returns : goal.returns
+pub returns-else-is_there : goal.returns-else-is_there
 unfolding class_number
-returns c = class_none _ _ _ c.longest-route.ensures (sym c.is_there.ensures ∙ c.if-is_there.false)
+returns-else-is_there c = class_none _ _ _ c.longest-route.ensures (sym c.is_there.ensures ∙ c.if-is_there.false)

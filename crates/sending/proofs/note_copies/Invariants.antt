@@ -1,13 +1,8 @@
 -- A walk over the set's faces, the lowest first: one law for the start, one for a turn, one for the end.
 use Rattle.sizes.specs.Sizes.{most_faces}
-use Rattle.faces.specs.Laws.Walk.{Walks}
 use Rattle.sending.specs.Places.Copies.{owed, Owes}
 use Rattle.sending.proofs.note_copies.Given as goal
 
 abbrev pub invariant-loop-face : goal.invariant-loop-face
 invariant-loop-face l =
-    Walks most_faces l.left l.face
-    × Owes l.len l.initial.sends (owed most_faces l.set l.classes) (owed most_faces l.left l.classes) l.count l.sends
-
-abbrev pub decreases-loop-face : goal.decreases-loop-face
-decreases-loop-face l = l.left
+    Owes l.len l.initial.sends (owed most_faces l.set l.classes) (owed most_faces l.face-iterator.left l.classes) l.count l.sends

@@ -9,7 +9,7 @@ returns-then-is_peer c =
     (sym c.is_peer.ensures
     ∙ c.if-is_peer.true)
     c.class_for-class.ensures
-    (class_said _ _ _ _ _) c.send_nack.ensures
+    (class_said _ _) c.send_nack.ensures
 
-pub returns : goal.returns
-returns c = refuses_none _ _ _ _ _ _ _ _ _ _ (sym c.is_peer.ensures ∙ c.if-is_peer.false)
+pub returns-else-is_peer : goal.returns-else-is_peer
+returns-else-is_peer c = refuses_none _ _ _ _ _ _ _ _ _ _ (sym c.is_peer.ensures ∙ c.if-is_peer.false)

@@ -9,14 +9,14 @@ use Rattle.sending.proofs.send_copies.Goals as goal
 pub returns-then-lowest-gt-FACES : goal.returns-then-lowest-gt-FACES
 returns-then-lowest-gt-FACES c = copies_none _ _ _ _ _ (walks (omega arith) c.lowest.ensures) (omega arith) _ _
 
-pub returns-in-Full : goal.returns-in-Full
-returns-in-Full c = packs_full _ _ _ _ _ (answer_full _ _ _ _ c.write_data.ensures c.in-Full.is)
+pub returns-in-None : goal.returns-in-None
+returns-in-None c = packs_full _ _ _ _ _ (answer_full _ _ _ _ c.write_data.ensures c.in-None.is)
 
-pub returns-in-Next : goal.returns-in-Next
-returns-in-Next c =
+pub returns-in-Some : goal.returns-in-Some
+returns-in-Some c =
     copies_sent _ _ _ _ _
     (walks (omega arith) c.lowest.ensures)
     (omega arith) _ _ _ _ _ _
     (answer_next _ _ _ _ c.write_data.ensures
-    c.in-Next.is)
+    c.in-Some.is)
     c.note_copies.ensures

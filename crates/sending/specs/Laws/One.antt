@@ -1,6 +1,6 @@
 -- No send, and one send: it is packed at the buffer's start.
 -- Assumes nothing.
-use Rattle.std.specs.Prelude.{ℕ, ◌+◌, ◌≤◌, ◌<◌, ◌≡◌, refl, Bool, true, false, List, [], ◌∷◌, length, set, leb}
+use Rattle.std.specs.Prelude.{ℕ, ◌+◌, ◌≤◌, ◌<◌, ◌≡◌, refl, Bool, true, false, List, [], ◌∷◌, length, set, leb, Option}
 use Rattle.std.proofs.Common.{sym, ap, ◌∙◌, arith, le-leb, leb-true, leb-false}
 use Rattle.std.proofs.Math.Option.{none}
 use Rattle.std.proofs.lemmas.List.Edits.{sets}
@@ -8,7 +8,7 @@ use Rattle.std.proofs.lemmas.Bool.{lt-leb}
 use Rattle.laws.specs.Laws.Pick.{pick_ind, pick_yes, pick_no}
 use Rattle.sizes.specs.Sizes.{most_packet, least_buffer}
 use Rattle.records.specs.Class.{class_of}
-use Rattle.packets.specs.declared.bare.Hop.{Hop}
+use Rattle.packets.specs.declared.bare.HopLimit.{HopLimit}
 use Rattle.packets.specs.Places.View.{lowered}
 use Rattle.writing.specs.Laws.Written.{length_lowered}
 use Rattle.rules.specs.Outcome.{Kind, interest, dat, nack, kind_number, Send}
@@ -37,8 +37,8 @@ pub packet_fits : (bytes b : List ℕ) (ss : List Send) → length bytes ≤ mos
 packet_fits bytes b ss h l = room_yes bytes b ss (omega arith)
 
 -- and so has an Interest of at most 1,500 bytes, which keeps its length
-pub interest_fits : (bare : List ℕ) (hop : Hop) (b : List ℕ) (ss : List Send) → length bare ≤ most_packet → least_buffer ≤ length b
-    → if_room (lowered bare hop) b ss ≡ ss
+pub interest_fits : (bare : List ℕ) (hop : Option HopLimit) (b : List ℕ) (ss : List Send) → length bare ≤ most_packet
+    → least_buffer ≤ length b → if_room (lowered bare hop) b ss ≡ ss
 interest_fits bare hop b ss h l = packet_fits (lowered bare hop) b ss (rw (length_lowered bare hop) h) l
 
 -- nothing is sent

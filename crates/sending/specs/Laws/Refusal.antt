@@ -53,15 +53,14 @@ module _ (name : List ℕ) (rs : List Route) (i : ℕ) (e : i ≡ longest_at nam
       go (some r) t = absurd (true≢false t)
 
 -- the class word of the longest route for a name says its class
-pub class_said : (names heads costs : List (List ℕ)) (s : Routes) (name : List ℕ)
-    → class_of (class_number (route_class (longest name (view names heads costs s))))
-    ≡ route_class (longest name (view names heads costs s))
+pub class_said : (t : Routes) (name : List ℕ)
+    → class_of (class_number (route_class (longest name (view t)))) ≡ route_class (longest name (view t))
 unfolding route_class class_word
-class_said names heads costs s name = go (longest name (view names heads costs s)) refl
+class_said t name = go (longest name (view t)) refl
   where
-    go : (o : Option Route) → longest name (view names heads costs s) ≡ o → class_of (class_number (route_class o)) ≡ route_class o
+    go : (o : Option Route) → longest name (view t) ≡ o → class_of (class_number (route_class o)) ≡ route_class o
     go none e = unfold class_of class_number pick in refl
-    go (some r) e = longest_class most_faces names heads costs s name r e
+    go (some r) e = longest_class most_faces t name r e
 
 -- the sends of a refusal, by the faces and the routes of a node
 module _ (fs : List (Option Face)) (rs : List Route) (f reason : ℕ) (name : List ℕ) (p m : Bool) (nonce : ℕ) (rows : List (List ℕ))

@@ -7,10 +7,18 @@ use Rattle.rows.specs.Lent.{Lent}
 use Rattle.laws.specs.Pick.{pick}
 use Rattle.records.specs.Face.{Face, is_peer}
 use Rattle.records.specs.Route.{Route, longest}
-use Rattle.rules.specs.Outcome.{nack, Send, route_class}
+use Rattle.rules.specs.Outcome.{Kind, interest, dat, nack, Send, route_class}
 use Rattle.writing.specs.Written.{nack_bytes}
+use Rattle.sending.specs.declared.Kind as code
+use Rattle.sending.specs.declared.Kind.TheVariants.{Interest, Data, Nack}
 use Rattle.sending.specs.declared.Sent.{Sent}
 use Rattle.sending.specs.Rows.{Packs, if_room, Sheet}
+
+-- the kind of the rules that a kind of the code is
+abbrev pub kind_of : code.Kind → Kind
+kind_of Interest = interest
+kind_of Data = dat
+kind_of Nack = nack
 
 -- a row's numbers: face, kind, class, place and length
 abbrev pub note_of : ℕ → ℕ → ℕ → ℕ → ℕ → List ℕ

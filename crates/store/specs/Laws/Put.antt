@@ -1,13 +1,15 @@
 -- Storing a Data and making one the most recent: what the steps on rows come to.
 -- Assumes nothing.
-use Rattle.std.specs.Prelude.{ℕ, suc, zero, ◌+◌, ◌≤◌, ◌<◌, min, ◌≡◌, refl, List, [], ◌∷◌, ◌++◌, get_or, set, take, drop, ltb}
+use Rattle.std.specs.Prelude.{ℕ, suc, zero, ◌+◌, ◌-◌, ◌≤◌, ◌<◌, min, ◌≡◌, refl, List, [], ◌∷◌, ◌++◌, get_or, set, take, drop, ltb}
 use Rattle.std.proofs.Math.Path.{sym}
-use Rattle.std.proofs.Common.{ap, ◌∙◌, arith}
+use Rattle.std.proofs.Common.{ap, ◌∙◌, arith, length-append}
 use Rattle.std.proofs.Math.Bool.{true, false}
 use Rattle.std.proofs.Math.Option.{Option, none, some}
 use Rattle.std.proofs.Math.ListN.{length}
 use Rattle.std.proofs.Math.Dec.{leb}
 use borrow.Author.Tests.{ltb-true, ltb-false, lt-ltb, le-ltb, le-leb, lt-leb}
+use Rattle.std.proofs.Math.Seq.{take-append_seam}
+use Rattle.std.proofs.lemmas.List.{set-get_or}
 use Rattle.sizes.specs.Sizes.{most_packet, most_stored}
 use Rattle.laws.specs.Pick.{pick}
 use Rattle.laws.specs.Laws.Pick.{pick_ind, pick_yes, pick_no}
@@ -16,10 +18,11 @@ use Rattle.laws.specs.Laws.Tab.{index_of_le, without_out, length_without, withou
 use Rattle.packethead.specs.Name.{name_of}
 use Rattle.records.specs.Slots.{given, at_place}
 use Rattle.records.specs.Stored.{Stored, others, room_for, stored}
+use Rattle.store.specs.declared.Row.{Row}
 use Rattle.store.specs.declared.Store.{Store}
 use Rattle.store.specs.declared.Handle.{Handle}
-use Rattle.store.specs.Places.View.{stored_of, stored_at, view, place, data_of, place_is, view_length, view_count, view_state, view_at}
-use Rattle.store.specs.Places.View.{view_add}
+use Rattle.store.specs.Places.View.{no_row, stored_of, stored_at, view, place, data_of, place_is, view_length, view_count, view_at}
+use Rattle.store.specs.Places.View.{view_add, view_without, view_take, count_of, count_is}
 use Rattle.store.specs.Operations.{recent, kept, fits_row, Puts}
 use Rattle.store.specs.Places.Put.{is_named, leaver}
 
@@ -41,38 +44,27 @@ stored_is d ds h =
     let l : ltb (length ds) most_stored ≡ false = le-ltb (length ds) most_stored (omega arith) in
     rw (without_out i ds (omega arith), l, pick_no, without_first ds))
 
-module _ (bytes : List ℕ) (time freshness : ℕ) (packets heads : List (List ℕ)) (s : Store) where
+module _ (bytes : List ℕ) (time freshness : ℕ) (s : Store) where
   -- bytes that are longer than a row change nothing
   pub put_long : (n : ℕ) → n ≡ min s.count most_stored → most_packet < length bytes
-      → Puts (record { fits = false; store = record { count = n } }) (view packets heads (record { count = n }))
-      (data_of bytes time freshness) (view packets heads s)
+      → Puts false (view (record { rows = s.rows; count = n })) (data_of bytes time freshness) (view s)
   unfolding kept fits_row data_of
   put_long n c h =
       let l : leb (length bytes) most_packet ≡ false = lt-leb (length bytes) most_packet h in
-      record {
-        said = sym l;
-        left = view_count packets heads (record { count = n }) s (omega arith) ∙ sym (pick_no _ _ _ l);
-        state = view_state packets heads (record { count = n }) (omega arith);
-      }
+      record { said = sym l; left = view_count s.rows n s.count (omega arith) ∙ sym (pick_no _ _ _ l) }
 
-  -- a row and a head written after the Data that are left store a Data
-  pub put_short : (ps hs : List (List ℕ)) (r : ℕ) (row : List ℕ) → length bytes ≤ most_packet → r < most_stored
-      → length ps ≡ most_stored → length hs ≡ most_stored
-      → view ps hs (record { count = r }) ≡ without (leaver (name_of bytes) (view packets heads s)) (view packets heads s)
-      → take (length bytes) row ≡ bytes
-      → Puts (record { fits = true; store = record { count = r + 1 } })
-      (view (set ps r row) (set hs r (length bytes ∷ time ∷ freshness ∷ [])) (record { count = r + 1 }))
-      (data_of bytes time freshness) (view packets heads s)
-  unfolding kept fits_row data_of stored_of
-  put_short ps hs r row h g a b e w =
+  -- a row written after the Data that are left stores a Data
+  pub put_short : (rows : List Row) (r : ℕ) (row : Row) → length bytes ≤ most_packet → r < most_stored → length rows ≡ most_stored
+      → view (record { rows = rows; count = r }) ≡ without (leaver (name_of bytes) (view s)) (view s)
+      → stored_of row ≡ data_of bytes time freshness
+      → Puts true (view (record { rows = set rows r row; count = r + 1 })) (data_of bytes time freshness) (view s)
+  unfolding kept fits_row data_of
+  put_short rows r row h g a e w =
       let l : leb (length bytes) most_packet ≡ true = le-leb (length bytes) most_packet h in
-      let m : length (view packets heads s) ≤ most_stored = omega (arith, view_length packets heads s) in
+      let m : length (view s) ≤ most_stored = omega (arith, view_length s) in
       record {
         said = sym l;
-        left =
-            view_add ps hs (record { count = r }) row (length bytes ∷ time ∷ freshness ∷ []) g a b
-            ∙ rw (e, w, l, pick_yes) (stored_is (data_of bytes time freshness) (view packets heads s) m);
-        state = view_state _ _ (record { count = r + 1 }) (omega arith);
+        left = view_add rows r row g a ∙ rw (e, w, l, pick_yes) (stored_is (data_of bytes time freshness) (view s) m);
       }
 
 -- the last Data is the most recent already, and past it there is none
@@ -88,25 +80,62 @@ recent_last (suc i) (d ∷ ds) h = go (at_place i ds) ∙ ap (λ (l : List Store
     go none = refl
     go (some e) = refl
 
+module _ (i : ℕ) (d : Stored) (ds : List Stored) (h : i < length ds) (e : at_place i ds ≡ some d) where
+  -- as many Data where one is made the most recent
+  pub length_recent : length (recent i ds) ≡ length ds
+  unfolding recent given
+  length_recent = rw e (omega (arith, length-append (without i ds) (d ∷ []), length_without i ds h))
+
+  -- what is left where the most recent then goes
+  pub recent_less : take (length ds - 1) (recent i ds) ≡ without i ds
+  unfolding recent given
+  recent_less =
+      let n : length ds - 1 ≡ length (without i ds) = omega (arith, length_without i ds h) in
+      rw (e, n, take-append_seam)
+
+module _ (s t : Store) (i : ℕ) (h : i < length (view s)) (e : view t ≡ recent i (view s)) (c : count_of t ≡ length (view t)) where
+  -- a store in which one Data was made the most recent counts as many
+  pub recent_count : t.count ≡ length (view s)
+  recent_count =
+      let at = view_at s i (omega (arith, view_length s)) in
+      sym (count_is t) ∙ c ∙ ap (λ (ds : List Stored). length ds) e ∙ length_recent i (stored_at s.rows i) (view s) h at
+
+  -- where the most recent then counts no more, it is gone
+  pub recent_gone : view (record { rows = t.rows; count = t.count - 1 }) ≡ without i (view s)
+  recent_gone =
+      let at = view_at s i (omega (arith, view_length s)) in
+      let n : length (view s) - 1 ≡ t.count - 1 = omega (arith, recent_count) in
+      view_take t.rows t.count (t.count - 1) (omega arith) (omega (arith, recent_count, view_length s))
+      ∙ rw (e, ← n) (recent_less i (stored_at s.rows i) (view s) h at)
+
 -- so a handle that stands for the last, or for none, leaves the store as it is
-pub last_stays : (packets heads : List (List ℕ)) (s : Store) (n : ℕ) (h : Handle) → n ≡ min s.count most_stored → n ≤ h.at + 1
-    → view packets heads (record { count = n }) ≡ recent (place packets heads s h) (view packets heads s)
-last_stays packets heads s n h c l =
-    view_count packets heads (record { count = n }) s (omega arith)
-    ∙ rw place_is (sym (recent_last h.at (view packets heads s) (omega (arith, view_length packets heads s))))
+pub last_stays : (s : Store) (n : ℕ) (h : Handle) → n ≡ min s.count most_stored → n ≤ h.at + 1
+    → view (record { rows = s.rows; count = n }) ≡ recent (place s h) (view s)
+last_stays s n h c l =
+    view_count s.rows n s.count (omega arith) ∙ rw place_is (sym (recent_last h.at (view s) (omega (arith, view_length s))))
 
 -- the Data that was taken out, written after those that are left, is the most recent
-pub touch_is : (packets heads : List (List ℕ)) (s : Store) (ps hs : List (List ℕ)) (n i r : ℕ) → n ≡ min s.count most_stored → i < n
-    → r < most_stored → length ps ≡ most_stored → length hs ≡ most_stored
-    → view ps hs (record { count = r }) ≡ without i (view packets heads s)
-    → view (set ps r (get_or packets i [])) (set hs r (get_or heads i [])) (record { count = n }) ≡ recent i (view packets heads s)
+pub touch_is : (s : Store) (rows : List Row) (n i r : ℕ) → n ≡ min s.count most_stored → i < n → r < most_stored
+    → length rows ≡ most_stored → view (record { rows = rows; count = r }) ≡ without i (view s)
+    → view (record { rows = set rows r (get_or s.rows i no_row); count = n }) ≡ recent i (view s)
 unfolding recent given stored_at
-touch_is packets heads s ps hs n i r c h g a b e =
-    let v = view packets heads s in
-    let m : length v ≡ min s.count most_stored = view_length packets heads s in
+touch_is s rows n i r c h g a e =
+    let v = view s in
+    let m : length v ≡ min s.count most_stored = view_length s in
     let f : r + 1 ≡ min s.count most_stored =
-    omega (arith, view_length ps hs (record { count = r }), ap (λ (x : List Stored). length x) e, length_without i v (omega arith)) in
-    rw (view_at packets heads s i (omega arith))
-    (view_count (set ps r (get_or packets i [])) (set hs r (get_or heads i [])) (record { count = n }) (record { count = r + 1 }) (omega arith)
-    ∙ view_add ps hs (record { count = r }) (get_or packets i []) (get_or heads i []) g a b
+    omega (arith, view_length (record { rows = rows; count = r }), ap (λ (x : List Stored). length x) e, length_without i v (omega arith)) in
+    rw (view_at s i (omega arith))
+    (view_count (set rows r (get_or s.rows i no_row)) n (r + 1) (omega arith)
+    ∙ view_add rows r (get_or s.rows i no_row) g a
     ∙ rw e)
+
+-- rows that turned by one place from a Data to the last make that Data the most recent
+pub turn_is : (s : Store) (rows : List Row) (n i : ℕ) → n ≡ min s.count most_stored → i < n → length rows ≡ most_stored
+    → ((k : ℕ) → k < i → get_or rows k no_row ≡ get_or s.rows k no_row)
+    → ((k : ℕ) → i ≤ k → k + 1 < n → get_or rows k no_row ≡ get_or s.rows (k + 1) no_row)
+    → get_or rows (n - 1) no_row ≡ get_or s.rows i no_row
+    → view (record { rows = rows; count = n }) ≡ recent i (view s)
+turn_is s rows n i c h a before moved last =
+    let r : n - 1 < most_stored = omega arith in
+    let v = touch_is s rows n i (n - 1) c h r a (view_without s rows i n c h before moved) in
+    rw (← last, set-get_or rows (n - 1) no_row) at v

@@ -1,30 +1,30 @@
--- The store as the rules have it: Data in the order of their use. No other file can open `view`, `state_of` and `place`, so their laws stand
+-- The store as the rules have it: Data in the order of their use. No other file can open `view`, `count_of` and `place`, so their laws stand
 -- here.
 -- Assumes nothing.
-use Prim.Native.Nat.{ℕ, suc, ◌+◌, ◌-◌, ◌≤◌, ◌<◌, min}
-use Rattle.std.specs.Prelude.{◌≡◌, Bool, get_or, set, take, drop}
+use Rattle.std.specs.Prelude.{ℕ, suc, zero, ◌+◌, ◌-◌, ◌≤◌, ◌<◌, ◌≡◌, Bool, List, [], ◌∷◌, ◌++◌, get_or, set, take, drop, map, min, not, cond}
+use Rattle.std.specs.declared.option.Option as code
+use Rattle.std.specs.List.{position_or_len}
+use Rattle.std.specs.Option.{MatchOption}
+use Rattle.std.proofs.lemmas.List.{get_or-take, length-map}
 use Rattle.std.proofs.Math.Path.{refl, ap}
-use Rattle.std.proofs.Common.{sym, ◌∙◌, drop-cons, ltb-true, ltb-false}
+use Rattle.std.proofs.Common.{sym, ◌∙◌, drop-cons, ltb-true, ltb-false, arith, length-take}
 use Rattle.std.proofs.Math.Bool.{true, false}
-use mathlib.Core.List.{List, [], ◌∷◌, ◌++◌}
 use Rattle.std.proofs.Math.Option.{Option, none, some, none-ne-some, some-injective}
-use native.Mathlib.Omega.{arith}
 use Rattle.std.proofs.Math.Nat.{zero-add}
 use Rattle.std.proofs.Math.ListN.{length}
 use Rattle.std.proofs.Math.Seq.{get_or-set_same, get_or-set_other}
 use Rattle.std.proofs.Math.Dec.{ltb}
 use Rattle.sizes.specs.Sizes.{most_stored}
-use Rattle.rows.specs.Lent.{Lent}
-use Rattle.laws.specs.Places.Loop.{first, turns}
-use Rattle.laws.specs.Places.Rows.{down}
-use Rattle.laws.specs.Laws.Rows.{downs_before, downs_moved}
+use Rattle.laws.specs.Places.Loop.{first}
 use Rattle.laws.specs.Places.Tab.{tab}
+use Rattle.laws.specs.Pick.{pick}
 use Rattle.laws.specs.Lists.{without, index_of}
-use Rattle.laws.specs.Laws.Tab.{length_tab, get_d_tab, tab_ext, tab_snoc, tab_without, first_tab}
+use Rattle.laws.specs.Laws.Tab.{length_tab, get_d_tab, tab_ext, tab_snoc, tab_without, tab_list, map_tab, first_tab, index_of_le}
 use Rattle.packethead.specs.Name.{name_of}
-use Rattle.records.specs.Slots.{at_place}
+use Rattle.records.specs.Slots.{at_place, is_some}
 use Rattle.records.specs.Laws.Place.{place_in_lem, place_past}
 use Rattle.records.specs.Stored.{Stored}
+use Rattle.store.specs.declared.Row.{Row}
 use Rattle.store.specs.declared.Store.{Store}
 use Rattle.store.specs.declared.Handle.{Handle}
 
@@ -32,160 +32,209 @@ use Rattle.store.specs.declared.Handle.{Handle}
 unfoldable pub data_of : List ℕ → ℕ → ℕ → Stored
 data_of bytes time freshness = record { name = name_of bytes; bytes = bytes; time = time; freshness = freshness }
 
--- the Data that a row and its head mean
-unfoldable pub stored_of : List ℕ → List ℕ → Stored
-stored_of row head = data_of (take (get_or head 0 0) row) (get_or head 1 0) (get_or head 2 0)
+-- the Data that a row means
+unfoldable pub stored_of : Row → Stored
+stored_of r = data_of (take r.len r.packet) r.time r.freshness
+
+-- a row where there is none
+abbrev pub no_row : Row
+no_row = record { packet = []; len = 0; time = 0; freshness = 0 }
 
 -- the Data at a place
-unfoldable pub stored_at : List (List ℕ) → List (List ℕ) → ℕ → Stored
-stored_at packets heads i = stored_of (get_or packets i []) (get_or heads i [])
+unfoldable pub stored_at : List Row → ℕ → Stored
+stored_at rows i = stored_of (get_or rows i no_row)
 
 -- the Data in the order of their use; a count past the store's size is the size
-pub view : List (List ℕ) → List (List ℕ) → Store → List Stored
-view packets heads s = tab (stored_at packets heads) 0 (min s.count most_stored)
+pub view : Store → List Stored
+view s = tab (stored_at s.rows) 0 (min s.count most_stored)
 
--- the small state of a store with these Data
-pub state_of : List Stored → Store
-state_of ds = record { count = length ds }
+-- how many Data a store counts
+pub count_of : Store → ℕ
+count_of s = s.count
 
 -- the place among the Data that a handle stands for
-pub place : List (List ℕ) → List (List ℕ) → Store → Handle → ℕ
-place packets heads s h = h.at
+pub place : Store → Handle → ℕ
+place s h = h.at
 
--- a table of rows that is lent
-abbrev pub Rows : Type 0
-Rows = Lent (List (List ℕ))
+abbrev pub placed : Store → Handle → ℕ
+placed = place
 
--- the Data as they were lent
-abbrev pub before : Rows → Rows → Store → List Stored
-before packets heads s = view packets.entry heads.entry s
+-- the Data that a handle stands for, if there is one
+abbrev pub found : Store → Handle → Option Stored
+found s h = at_place (placed s h) (view s)
 
--- the Data as they are left
-abbrev pub after : Rows → Rows → Store → List Stored
-after packets heads s = view packets.exit heads.exit s
-
--- the place that a handle stands for among the Data that were lent
-abbrev pub placed : Rows → Rows → Store → Handle → ℕ
-placed packets heads s h = place packets.entry heads.entry s h
-
--- the Data that a handle stands for among the Data that were lent, if there is one
-abbrev pub found : Rows → Rows → Store → Handle → Option Stored
-found packets heads s h = at_place (placed packets heads s h) (before packets heads s)
+-- the first places make the first of a list
+tab_take : (g : ℕ → Stored) (i m n : ℕ) → n ≤ m → tab g i n ≡ take n (tab g i m)
+unfolding tab
+tab_take g i m zero h = refl
+tab_take g i zero (suc n) h = absurd (omega arith)
+tab_take g i (suc m) (suc n) h = ap (λ (l : List Stored). g i ∷ l) (tab_take g (suc i) m n (omega arith))
 
 -- as many Data as are counted, at most the size
-pub view_length : (packets heads : List (List ℕ)) (s : Store) → length (view packets heads s) ≡ min s.count most_stored
+pub view_length : (s : Store) → length (view s) ≡ min s.count most_stored
 unfolding view
-view_length packets heads s = length_tab (stored_at packets heads) 0 (min s.count most_stored)
+view_length s = length_tab (stored_at s.rows) 0 (min s.count most_stored)
 
 -- none counted is none, whatever the memory holds
-pub view_empty : (packets heads : List (List ℕ)) (s : Store) → s.count ≡ 0 → view packets heads s ≡ []
+pub view_empty : (s : Store) → s.count ≡ 0 → view s ≡ []
 unfolding view tab
-view_empty packets heads s e = let z : min s.count most_stored ≡ 0 = omega arith in rw z
+view_empty s e = let z : min s.count most_stored ≡ 0 = omega arith in rw z
 
--- the small state of no Data
-pub state_empty : (s : Store) → s.count ≡ 0 → s ≡ state_of []
-unfolding state_of
-state_empty s e = ap (λ (c : ℕ). record { count = c }) e
+-- what a store counts
+pub count_is : (s : Store) → count_of s ≡ s.count
+unfolding count_of
+count_is s = refl
 
-module _ (packets heads : List (List ℕ)) (s : Store) where
+-- a store that counts none has no Data to count
+pub count_empty : (s : Store) → s.count ≡ 0 → count_of s ≡ length {A = Stored} []
+unfolding count_of
+count_empty s e = e
+
+-- a store that counts at most its size counts its Data
+pub count_all : (s : Store) → s.count ≤ most_stored → count_of s ≡ length (view s)
+unfolding count_of
+count_all s h = omega (arith, view_length s)
+
+-- a handle stands for the place that it has
+pub place_is : (s : Store) (h : Handle) → place s h ≡ h.at
+unfolding place
+place_is s h = refl
+
+-- handles that stand for one place are one handle
+pub place_one : (s : Store) (h k : Handle) → place s h ≡ place s k → h ≡ k
+unfolding place
+place_one s h k e = ap (λ (i : ℕ). record { at = i }) e
+
+module _ (s : Store) where
   -- the Data at a place
-  pub view_at : (i : ℕ) → i < min s.count most_stored → at_place i (view packets heads s) ≡ some (stored_at packets heads i)
+  pub view_at : (i : ℕ) → i < min s.count most_stored → at_place i (view s) ≡ some (stored_at s.rows i)
   unfolding view
-  view_at i h = place_in_lem (stored_at packets heads) 0 (min s.count most_stored) i h ∙ rw (zero-add i)
+  view_at i h = place_in_lem (stored_at s.rows) 0 (min s.count most_stored) i h ∙ rw (zero-add i)
 
   -- past the last there is no Data
-  pub view_past : (i : ℕ) → min s.count most_stored ≤ i → at_place i (view packets heads s) ≡ none
-  view_past i h = place_past (view packets heads s) i (omega (arith, view_length packets heads s))
+  pub view_past : (i : ℕ) → min s.count most_stored ≤ i → at_place i (view s) ≡ none
+  view_past i h = place_past (view s) i (omega (arith, view_length s))
+
+  -- whether there is a Data at a place
+  pub view_there : (i : ℕ) → is_some (at_place i (view s)) ≡ ltb i (min s.count most_stored)
+  unfolding is_some
+  view_there i = go (ltb i (min s.count most_stored)) refl
+    where
+      go : (b : Bool) → ltb i (min s.count most_stored) ≡ b → is_some (at_place i (view s)) ≡ b
+      go true q = rw (view_at i (ltb-true _ _ q))
+      go false q = rw (view_past i (ltb-false _ _ q))
 
   -- a Data's name is where it stands in its bytes
-  pub view_name : (i : ℕ) (d : Stored) → at_place i (view packets heads s) ≡ some d → d.name ≡ name_of d.bytes
+  pub view_name : (i : ℕ) (d : Stored) → at_place i (view s) ≡ some d → d.name ≡ name_of d.bytes
   unfolding stored_at stored_of data_of
   view_name i d e = go (ltb i (min s.count most_stored)) refl
     where
       go : (b : Bool) → ltb i (min s.count most_stored) ≡ b → d.name ≡ name_of d.bytes
       go true q =
-          let own : d ≡ stored_at packets heads i = some-injective _ _ (sym e ∙ view_at i (ltb-true _ _ q)) in
+          let own : d ≡ stored_at s.rows i = some-injective _ _ (sym e ∙ view_at i (ltb-true _ _ q)) in
           rw own
       go false q = absurd (none-ne-some d (sym (view_past i (ltb-false _ _ q)) ∙ e))
 
-  -- counts that are the same up to the size show the same Data
-  pub view_count : (n : Store) → min s.count most_stored ≡ min n.count most_stored → view packets heads s ≡ view packets heads n
-  unfolding view
-  view_count n e = rw e
-
-  -- a count that is at most the store's size is the small state of its Data
-  pub view_state : s.count ≤ most_stored → s ≡ state_of (view packets heads s)
-  unfolding state_of
-  view_state h =
-      let e : s.count ≡ length (view packets heads s) = omega (arith, view_length packets heads s) in
-      ap (λ (c : ℕ). record { count = c }) e
-
-  -- a handle stands for the place that it has
-  pub place_is : (h : Handle) → place packets heads s h ≡ h.at
-  unfolding place
-  place_is h = refl
-
-  -- handles that stand for one place are one handle
-  pub place_one : (h k : Handle) → place packets heads s h ≡ place packets heads s k → h ≡ k
-  unfolding place
-  place_one h k e = ap (λ (i : ℕ). record { at = i }) e
-
   -- a search by places is a search among the Data
-  pub view_find : (p : Stored → Bool) → first (λ k. p (stored_at packets heads k)) 0 (min s.count most_stored)
-      ≡ index_of p (view packets heads s)
+  pub view_find : (p : Stored → Bool) → first (λ k. p (stored_at s.rows k)) 0 (min s.count most_stored) ≡ index_of p (view s)
   unfolding view
   view_find p =
-      first_tab p (stored_at packets heads) (λ k. p (stored_at packets heads k)) 0 (min s.count most_stored) (λ k _ _. refl) ∙ zero-add _
+      first_tab p (stored_at s.rows) (λ k. p (stored_at s.rows k)) 0 (min s.count most_stored) (λ k _ _. refl) ∙ zero-add _
 
   -- from a place on there is the Data at that place, and then those from the next on
-  pub view_from : (i : ℕ) → i < min s.count most_stored
-      → drop i (view packets heads s) ≡ stored_at packets heads i ∷ drop (suc i) (view packets heads s)
+  pub view_from : (i : ℕ) → i < min s.count most_stored → drop i (view s) ≡ stored_at s.rows i ∷ drop (suc i) (view s)
   unfolding view
   view_from i h =
-      let g = stored_at packets heads in
+      let g = stored_at s.rows in
       let n = min s.count most_stored in
       let l : i < length (tab g 0 n) = omega (arith, length_tab g 0 n) in
       rw (drop-cons (tab g 0 n) i (g i) l, get_d_tab g 0 n i (g i) h, zero-add i)
 
-  -- the rows after a place moved one place down leave the Data without the one at that place
-  pub view_without : (i n : ℕ) → n ≡ min s.count most_stored → i < n → length packets ≡ most_stored → length heads ≡ most_stored
-      → view (turns (down []) (i + 1) (n - (i + 1)) packets) (turns (down []) (i + 1) (n - (i + 1)) heads) (record { count = n - 1 })
-      ≡ without i (view packets heads s)
-  unfolding view stored_at
-  view_without i n e h a b =
-      let m = n - (i + 1) in
-      let ps = turns (down []) (i + 1) m packets in
-      let hs = turns (down []) (i + 1) m heads in
-      let s : min s.count most_stored ≡ n - 1 + 1 = omega arith in
-      let c : min (n - 1) most_stored ≡ n - 1 = omega arith in
-      rw (c, s)
-      (tab_without (stored_at packets heads) (stored_at ps hs) 0 (n - 1) i (omega arith)
-      (λ k _ l. rw (downs_before [] m (i + 1) k packets (omega arith), downs_before [] m (i + 1) k heads (omega arith)))
-      (λ k l t.
-      rw (
-        downs_moved [] m (i + 1) k packets (omega arith) (omega arith) (omega arith) (omega arith),
-        downs_moved [] m (i + 1) k heads (omega arith) (omega arith) (omega arith) (omega arith),
-      )))
+-- the Data that the rows mean, in their order
+pub view_rows : (s : Store) → length s.rows ≡ most_stored → view s ≡ map stored_of (take (min s.count most_stored) s.rows)
+unfolding view stored_at
+view_rows s e =
+    let l = take (min s.count most_stored) s.rows in
+    let n : length l ≡ min s.count most_stored = omega (arith, length-take (min s.count most_stored) s.rows) in
+    tab_ext (stored_at s.rows) (λ k. stored_of (get_or l k no_row)) 0 (min s.count most_stored)
+    (λ k _ h. rw (get_or-take (min s.count most_stored) s.rows k no_row (omega arith)))
+    ∙ sym (map_tab stored_of (λ k. get_or l k no_row) 0 (min s.count most_stored))
+    ∙ ap (map stored_of) (rw n at (tab_list l no_row))
 
-  -- a row and a head written after the last Data add the Data that they mean
-  pub view_add : (row head : List ℕ) → s.count < most_stored → length packets ≡ most_stored → length heads ≡ most_stored
-      → view (set packets s.count row) (set heads s.count head) (record { count = s.count + 1 })
-      ≡ view packets heads s ++ (stored_of row head ∷ [])
-  unfolding view stored_at
-  view_add row head h a b =
-      let g = stored_at (set packets s.count row) (set heads s.count head) in
-      let m : min (s.count + 1) most_stored ≡ s.count + 1 = omega arith in
-      let n : min s.count most_stored ≡ s.count = omega arith in
-      rw (m, n)
-      (tab_snoc g 0 s.count
-      ∙ rw (
-        zero-add s.count,
-        get_or-set_same packets s.count row [] (omega arith),
-        get_or-set_same heads s.count head [] (omega arith),
-        tab_ext g (stored_at packets heads) 0 s.count
-            (λ k _ l. rw (
-              get_or-set_other packets s.count k row [] (λ q. omega arith),
-              get_or-set_other heads s.count k head []
-                  (λ q. omega arith),
-            )),
-      ))
+-- the first row that means a Data of which p holds
+pub first_row : (p : Stored → Bool) (l : List Row) → index_of p (map stored_of l) ≡ position_or_len (λ r. p (stored_of r)) l
+unfolding index_of pick
+first_row p [] = refl
+first_row p (r ∷ l) = go (p (stored_of r)) (first_row p l)
+  where
+    go : (b : Bool) → index_of p (map stored_of l) ≡ position_or_len (λ r. p (stored_of r)) l
+        → pick b 0 (suc (index_of p (map stored_of l))) ≡ cond (not b) (1 + position_or_len (λ r. p (stored_of r)) l) 0
+    go true e = refl
+    go false e = omega (arith, e)
+
+-- what a search of the rows answers is the place of the first Data of which p holds, or none where there is none
+pub view_position : (p : Stored → Bool) (s : Store) (r : code.Option ℕ) (l : List Row) → length s.rows ≡ most_stored
+    → l ≡ take (min s.count most_stored) s.rows
+    → r ≡ cond (ltb (position_or_len (λ x. p (stored_of x)) l) (length l)) (code.Option.Some (position_or_len (λ x. p (stored_of x)) l)) code.Option.None
+    → MatchOption r (index_of p (view s) ≡ length (view s)) (λ i. (i < length (view s)) × (i ≡ index_of p (view s)))
+view_position p s r l e f q = rw (q, ← i, ← n) (go (ltb (index_of p (view s)) (length (view s))) refl)
+  where
+    v : view s ≡ map stored_of l
+    v = view_rows s e ∙ ap (map stored_of) (sym f)
+
+    i : index_of p (view s) ≡ position_or_len (λ x. p (stored_of x)) l
+    i = rw v (first_row p l)
+
+    n : length (view s) ≡ length l
+    n = rw (v, length-map l stored_of)
+
+    go : (b : Bool) → ltb (index_of p (view s)) (length (view s)) ≡ b
+        → MatchOption (cond b (code.Option.Some (index_of p (view s))) code.Option.None) (index_of p (view s) ≡ length (view s))
+        (λ i. (i < length (view s)) × (i ≡ index_of p (view s)))
+    go true h = (ltb-true _ _ h, refl)
+    go false h = omega (arith, ltb-false _ _ h, index_of_le p (view s))
+
+-- counts that are the same up to the size show the same Data of the same rows
+pub view_count : (rows : List Row) (m n : ℕ) → min m most_stored ≡ min n most_stored
+    → view (record { rows = rows; count = m }) ≡ view (record { rows = rows; count = n })
+unfolding view
+view_count rows m n e = rw e
+
+-- a store that counts fewer shows the first of the Data
+pub view_take : (rows : List Row) (m n : ℕ) → n ≤ m → m ≤ most_stored
+    → view (record { rows = rows; count = n }) ≡ take n (view (record { rows = rows; count = m }))
+unfolding view
+view_take rows m n h l =
+    let a : min n most_stored ≡ n = omega arith in
+    let b : min m most_stored ≡ m = omega arith in
+    rw (a, b) (tab_take (stored_at rows) 0 m n h)
+
+-- rows of which those after a place stand one place down leave the Data without the one at that place
+pub view_without : (s : Store) (rows : List Row) (i n : ℕ) → n ≡ min s.count most_stored → i < n
+    → ((k : ℕ) → k < i → get_or rows k no_row ≡ get_or s.rows k no_row)
+    → ((k : ℕ) → i ≤ k → k + 1 < n → get_or rows k no_row ≡ get_or s.rows (k + 1) no_row)
+    → view (record { rows = rows; count = n - 1 }) ≡ without i (view s)
+unfolding view stored_at
+view_without s rows i n e h a b =
+    let m : min s.count most_stored ≡ n - 1 + 1 = omega arith in
+    let c : min (n - 1) most_stored ≡ n - 1 = omega arith in
+    rw (c, m)
+    (tab_without (stored_at s.rows) (stored_at rows) 0 (n - 1) i (omega arith)
+    (λ k _ l. rw (a k (omega arith)))
+    (λ k l t. rw (b k (omega arith) (omega arith))))
+
+-- a row written after the last Data adds the Data that it means
+pub view_add : (rows : List Row) (n : ℕ) (row : Row) → n < most_stored → length rows ≡ most_stored
+    → view (record { rows = set rows n row; count = n + 1 }) ≡ view (record { rows = rows; count = n }) ++ (stored_of row ∷ [])
+unfolding view stored_at
+view_add rows n row h a =
+    let g = stored_at (set rows n row) in
+    let m : min (n + 1) most_stored ≡ n + 1 = omega arith in
+    let c : min n most_stored ≡ n = omega arith in
+    rw (m, c)
+    (tab_snoc g 0 n
+    ∙ rw (
+      zero-add n,
+      get_or-set_same rows n row no_row (omega arith),
+      tab_ext g (stored_at rows) 0 n (λ k _ l. rw (get_or-set_other rows n k row no_row (λ q. omega arith))),
+    ))

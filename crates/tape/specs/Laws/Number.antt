@@ -1,6 +1,6 @@
 -- The laws by which the reader of a number meets its definition: the groups passed so far, and one law for each outcome.
 -- Assumes nothing.
-use Rattle.std.specs.Prelude.{ℕ, zero, suc, ◌+◌, ◌*◌, ◌-◌, ◌^◌, ◌≤◌, ◌<◌, ◌≡◌, refl, Bool, true, false, ◌&&◌, ◌||◌, ◌≢◌, get_or, ltb, leb, eqb}
+use Rattle.std.specs.Prelude.{ℕ, zero, suc, ◌+◌, ◌*◌, ◌-◌, ◌^◌, ◌≤◌, ◌<◌, ◌≡◌, refl, Bool, true, false, ◌&&◌, ◌||◌, ◌≢◌, get_or, ltb, leb, eqb, None, Option, Some}
 use Rattle.std.proofs.Common.{sym, ◌∙◌, ap, length-drop, drop-cons, drop-drop, pow-add, mul-add, mul_assoc, add-one}
 use Rattle.std.proofs.Math.Bool.{and-false, or-true}
 use mathlib.Core.List.{List, [], ◌∷◌}
@@ -11,7 +11,7 @@ use native.Mathlib.Omega.{arith}
 use Rattle.laws.specs.Laws.Loop.{and_both}
 use Rattle.laws.specs.Pick.{pick}
 use Rattle.laws.specs.Laws.Pick.{pick_ind}
-use Rattle.tape.specs.declared.TapeNumber.{TapeNumber}
+use Rattle.laws.specs.Laws.Some.{some_pair}
 use Rattle.tape.specs.Number.{Groups, cut, groups, lower, sevens, regular, number_in, tape_number_at}
 use Rattle.tape.specs.Places.Number.{Passed, closed}
 
@@ -108,7 +108,7 @@ too_many v n more h =
 
 -- after the groups passed before a tenth, a group with groups after it is one too many
 long_bad : (s : List ℕ) (v unit d : ℕ) (p : Passed v unit) (g : Groups) → unit ≡ 2 ^ 63
-    → ((w m : ℕ) (l : List ℕ) → g ≡ groups w m l → 0 < m) → number_in s (above v unit p.count (lower d g)) ≡ TapeNumber.Bad
+    → ((w m : ℕ) (l : List ℕ) → g ≡ groups w m l → 0 < m) → number_in s (above v unit p.count (lower d g)) ≡ None
 unfolding number_in above lower pick
 long_bad s v unit d p cut e f = refl
 long_bad s v unit d p (groups w m l) e f =
@@ -134,7 +134,7 @@ byte s i h = rw (add-one i) (drop-cons s i 0 h)
 
 module _ {s : List ℕ} {at i v unit : ℕ} (p : Passing s at i v unit) where
   -- where no byte is left the groups are cut off
-  pub number_cut : length s ≤ i → tape_number_at s at ≡ TapeNumber.Bad
+  pub number_cut : length s ≤ i → tape_number_at s at ≡ None
   unfolding tape_number_at sevens above number_in
   number_cut h = let z : drop i s ≡ [] = drop_of_length-le s h in rw (p.same, z)
 
@@ -159,7 +159,7 @@ module _ {s : List ℕ} {at i v unit : ℕ} (p : Passing s at i v unit) where
   turn_fits small n = group_fits p.passed n (get_or s i 0 - 128) (omega arith)
 
   -- more groups than ten are no number
-  pub number_long : i < length s → 128 ≤ get_or s i 0 → unit ≡ 2 ^ 63 → tape_number_at s at ≡ TapeNumber.Bad
+  pub number_long : i < length s → 128 ≤ get_or s i 0 → unit ≡ 2 ^ 63 → tape_number_at s at ≡ None
   unfolding tape_number_at
   number_long inside high e =
       rw (p.same, byte s i inside, group_more (get_or s i 0) (drop (i + 1) s) high)
@@ -176,31 +176,31 @@ module _ {s : List ℕ} {at i v unit : ℕ} (p : Passing s at i v unit) where
 
 module _ (v unit b next : ℕ) where
   -- a group alone is its own number
-  pub closed_alone : v < unit → unit ≡ 1 → b < 128 → closed v unit b next ≡ TapeNumber.Is b next
+  pub closed_alone : v < unit → unit ≡ 1 → b < 128 → closed v unit b next ≡ Some (b, next)
   unfolding closed pick
   closed_alone l e h = let q : v + b * 1 ≡ b = omega arith in rw (e, q, lt-ltb b (2 ^ 64) (omega arith))
 
   -- "shortest form": the last group of several is not 0
-  pub closed_zero : v < unit → unit ≢ 1 → b ≡ 0 → closed v unit b next ≡ TapeNumber.Bad
+  pub closed_zero : v < unit → unit ≢ 1 → b ≡ 0 → closed v unit b next ≡ None
   unfolding closed pick
   closed_zero l n e = let q : v + 0 * unit ≡ v = omega arith in rw (e, q, ne_eqb unit 1 n, lt-leb unit v l)
 
   -- any other group gives its number, where that fits 64 bits
-  pub closed_is : b ≢ 0 → v + b * unit < 2 ^ 64 → closed v unit b next ≡ TapeNumber.Is (v + b * unit) next
+  pub closed_is : b ≢ 0 → v + b * unit < 2 ^ 64 → closed v unit b next ≡ Some ((v + b * unit), next)
   unfolding closed pick
   closed_is n h =
       let l : unit ≤ v + b * unit = omega (arith, mul-le-mul_right {m = 1} {n = b} unit (omega arith)) in
       rw (le-leb unit (v + b * unit) l, lt-ltb (v + b * unit) (2 ^ 64) h, or-true)
 
   -- a tenth group of 1 is the highest bit
-  pub closed_tenth : v < unit → b ≢ 0 → unit ≡ 2 ^ 63 → b ≤ 1 → closed v unit b next ≡ TapeNumber.Is (v + unit) next
+  pub closed_tenth : v < unit → b ≢ 0 → unit ≡ 2 ^ 63 → b ≤ 1 → closed v unit b next ≡ Some ((v + unit), next)
   closed_tenth l n e h =
       let q : b ≡ 1 = omega arith in
       let k : v + b * unit ≡ v + unit = rw q (omega arith) in
       closed_is n (omega arith) ∙ rw k
 
   -- "at most 64 bits": a tenth group is not more than 1
-  pub closed_large : unit ≡ 2 ^ 63 → 1 < b → closed v unit b next ≡ TapeNumber.Bad
+  pub closed_large : unit ≡ 2 ^ 63 → 1 < b → closed v unit b next ≡ None
   unfolding closed pick
   closed_large e h =
       let l : 2 ^ 64 ≤ v + b * unit = rw e (omega arith) in
@@ -214,22 +214,23 @@ pub record Stands (s : List ℕ) (at v next : ℕ) : Type 0 where
   pub form : regular v (next - at) ≡ true
 
 -- a number that is read stands at its place
-pub number_is : (s : List ℕ) (at v next : ℕ) → tape_number_at s at ≡ TapeNumber.Is v next → Stands s at v next
+pub number_is : (s : List ℕ) (at v next : ℕ) → tape_number_at s at ≡ Some (v, next) → Stands s at v next
 unfolding tape_number_at number_in
 number_is s at v next = go (sevens (drop at s)) refl
   where
-    go : (g : Groups) → sevens (drop at s) ≡ g → number_in s g ≡ TapeNumber.Is v next → Stands s at v next
+    go : (g : Groups) → sevens (drop at s) ≡ g → number_in s g ≡ Some (v, next) → Stands s at v next
     go cut q = λ e. let z : ◌≡◌ {A = ℕ} 0 1 = cc in absurd (omega arith)
     go (groups w n r) q =
-        pick_ind (λ (x : TapeNumber). x ≡ TapeNumber.Is v next → Stands s at v next) (regular w n) _ _
+        pick_ind (λ (x : Option (ℕ × ℕ)). x ≡ Some (v, next) → Stands s at v next) (regular w n) _ _
         (λ f e.
         let c = sevens_counted (drop at s) r w n q in
         let k : length r ≡ length s - (at + n) = ap length (sym c.rest) ∙ rw (drop-drop n at s, length-drop (at + n) s) in
         let d : length (drop at s) ≡ length s - at = length-drop at s in
-        let a : length s - length r ≡ next = cc in
+        let parts = some_pair e in
+        let a : length s - length r ≡ next = parts.1 in
         let b : next ≡ at + n = omega (arith, c.some, c.inside) in
         let m : next - at ≡ n = omega arith in
-        let u : w ≡ v = cc in
+        let u : w ≡ v = parts.0 in
         let t : drop next s ≡ r = rw (b, ← (drop-drop n at s)) c.rest in
         record {
           early = omega (arith, c.some);

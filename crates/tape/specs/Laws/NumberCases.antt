@@ -1,7 +1,6 @@
 -- Numbers worked out: the forms that are written, and what is read from bytes.
 -- Assumes nothing.
-use Rattle.std.specs.Prelude.{ℕ, ◌-◌, ◌^◌, ◌≡◌, refl, List, [], ◌∷◌, map}
-use Rattle.tape.specs.declared.TapeNumber.{TapeNumber}
+use Rattle.std.specs.Prelude.{ℕ, ◌-◌, ◌^◌, ◌≡◌, refl, List, [], ◌∷◌, map, None, Option, Some}
 use Rattle.laws.specs.Pick.{pick}
 use Rattle.tape.specs.Number.{lower, sevens, regular, number_in, tape_number_at}
 use Rattle.tape.specs.Laws.NumberRound.{tape_form}
@@ -33,25 +32,25 @@ forms_written = refl
 -- bytes and what stands at their start
 pub record Case : Type 0 where
   pub bytes : List ℕ
-  pub want : TapeNumber
+  pub want : Option (ℕ × ℕ)
 
 -- a row of the table of cases
-abbrev case : List ℕ → TapeNumber → Case
+abbrev case : List ℕ → Option (ℕ × ℕ) → Case
 case l w = record { bytes = l; want = w }
 
 -- the forms above; then a 0 on top, a tenth group of 2, an eleventh group, no byte, and a number cut off
 pub cases : List Case
 cases =
-    case (0x00 ∷ []) (TapeNumber.Is 0 1)
-    ∷ case (0x7F ∷ []) (TapeNumber.Is 127 1)
-    ∷ case (0x80 ∷ 0x01 ∷ []) (TapeNumber.Is 128 2)
-    ∷ case (0x84 ∷ 0x20 ∷ 0x05 ∷ []) (TapeNumber.Is 4100 2)
-    ∷ case (0xFF ∷ 0xFF ∷ 0xFF ∷ 0xFF ∷ 0xFF ∷ 0xFF ∷ 0xFF ∷ 0xFF ∷ 0xFF ∷ 0x01 ∷ []) (TapeNumber.Is (2 ^ 64 - 1) 10)
-    ∷ case (0x80 ∷ 0x00 ∷ []) TapeNumber.Bad
-    ∷ case (0x80 ∷ 0x80 ∷ 0x80 ∷ 0x80 ∷ 0x80 ∷ 0x80 ∷ 0x80 ∷ 0x80 ∷ 0x80 ∷ 0x02 ∷ []) TapeNumber.Bad
-    ∷ case (0x80 ∷ 0x80 ∷ 0x80 ∷ 0x80 ∷ 0x80 ∷ 0x80 ∷ 0x80 ∷ 0x80 ∷ 0x80 ∷ 0x80 ∷ 0x01 ∷ []) TapeNumber.Bad
-    ∷ case [] TapeNumber.Bad
-    ∷ case (0x80 ∷ []) TapeNumber.Bad
+    case (0x00 ∷ []) (Some (0, 1))
+    ∷ case (0x7F ∷ []) (Some (127, 1))
+    ∷ case (0x80 ∷ 0x01 ∷ []) (Some (128, 2))
+    ∷ case (0x84 ∷ 0x20 ∷ 0x05 ∷ []) (Some (4100, 2))
+    ∷ case (0xFF ∷ 0xFF ∷ 0xFF ∷ 0xFF ∷ 0xFF ∷ 0xFF ∷ 0xFF ∷ 0xFF ∷ 0xFF ∷ 0x01 ∷ []) (Some ((2 ^ 64 - 1), 10))
+    ∷ case (0x80 ∷ 0x00 ∷ []) None
+    ∷ case (0x80 ∷ 0x80 ∷ 0x80 ∷ 0x80 ∷ 0x80 ∷ 0x80 ∷ 0x80 ∷ 0x80 ∷ 0x80 ∷ 0x02 ∷ []) None
+    ∷ case (0x80 ∷ 0x80 ∷ 0x80 ∷ 0x80 ∷ 0x80 ∷ 0x80 ∷ 0x80 ∷ 0x80 ∷ 0x80 ∷ 0x80 ∷ 0x01 ∷ []) None
+    ∷ case [] None
+    ∷ case (0x80 ∷ []) None
     ∷ []
 
 -- each row of bytes is read as the table says

@@ -1,13 +1,12 @@
 -- The round trip: a number's shortest form is read back whatever stands around it, and it is the only form that is read.
 -- Assumes nothing.
-use Rattle.std.specs.Prelude.{ℕ, zero, suc, ◌+◌, ◌*◌, ◌-◌, ◌/◌, ◌%◌, ◌^◌, ◌≤◌, ◌<◌, ◌≡◌, refl, true, ◌≢◌, List, [], ◌∷◌, ◌++◌, length, get_or, drop, ltb}
+use Rattle.std.specs.Prelude.{ℕ, zero, suc, ◌+◌, ◌*◌, ◌-◌, ◌/◌, ◌%◌, ◌^◌, ◌≤◌, ◌<◌, ◌≡◌, refl, true, ◌≢◌, List, [], ◌∷◌, ◌++◌, length, get_or, drop, ltb, Some}
 use Rattle.std.proofs.Common.{ap, ⊎_elim, length-append, get_or-drop, lt-ltb, le-ltb, le-leb, ltb-true, ltb-false, eq-zero-or-pos, arith}
 use Rattle.std.proofs.Math.Bool.{or-true}
 use Rattle.std.proofs.Math.Seq.{drop-append_seam}
 use Rattle.std.proofs.Math.Nat.{one-le-pow}
 use Rattle.laws.specs.Pick.{pick}
 use Rattle.laws.specs.Laws.Pick.{pick_ind}
-use Rattle.tape.specs.declared.TapeNumber.{TapeNumber}
 use Rattle.tape.specs.Number.{Groups, cut, groups, lower, sevens, regular, number_in, tape_number_at}
 use Rattle.tape.specs.Laws.Number.{group_last, group_more, sevens_counted, number_is, regular_few, regular_shortest}
 
@@ -68,7 +67,7 @@ written_regular k v h l =
 
 -- what is written is read back, whatever stands before it and after it
 pub number_written : (v : ℕ) (front rest : List ℕ) → v < 2 ^ 64
-    → tape_number_at (front ++ (tape_form v ++ rest)) (length front) ≡ TapeNumber.Is v (length front + length (tape_form v))
+    → tape_number_at (front ++ (tape_form v ++ rest)) (length front) ≡ Some (v, (length front + length (tape_form v)))
 unfolding tape_number_at number_in tape_form pick
 number_written v front rest h =
     let a : v < 128 ^ 10 = omega arith in
@@ -128,7 +127,7 @@ only_form (b ∷ l) r v n k bytes =
         rw a (more_form b l r w m k high (bytes 0) some (rw (y, a) at (s (λ x. omega (arith, some)))) (omega arith) (λ j. ih w m j c))
 
 -- a number that is read from bytes stands there in the form that is written
-pub number_shortest : (s : List ℕ) (at v next : ℕ) → ((i : ℕ) → get_or s i 0 < 256) → tape_number_at s at ≡ TapeNumber.Is v next
+pub number_shortest : (s : List ℕ) (at v next : ℕ) → ((i : ℕ) → get_or s i 0 < 256) → tape_number_at s at ≡ Some (v, next)
     → drop at s ≡ tape_form v ++ drop next s
 unfolding tape_form
 number_shortest s at v next bytes e =

@@ -8,6 +8,6 @@ pub returns-then-has : goal.returns-then-has
 unfolding may_at pick
 returns-then-has c = rw c.if-has.true c.number_at.ensures
 
-pub returns : goal.returns
+pub returns-else-has : goal.returns-else-has
 unfolding may_at pick
-returns c = rw c.if-has.false refl
+returns-else-has c = rw c.if-has.false refl

@@ -1,6 +1,6 @@
 -- The other way round: an event that is read from bytes stands there in the form that is written, so that there is no other form of it.
 -- Assumes nothing.
-use Rattle.std.specs.Prelude.{ℕ, zero, suc, ◌+◌, ◌-◌, ◌^◌, ◌≤◌, ◌≡◌, Bool, true, ◌||◌, List, [], ◌∷◌, ◌++◌, length, take, drop, ltb, leb, eqb}
+use Rattle.std.specs.Prelude.{ℕ, zero, suc, ◌+◌, ◌-◌, ◌^◌, ◌≤◌, ◌≡◌, Bool, true, ◌||◌, List, [], ◌∷◌, ◌++◌, length, take, drop, ltb, leb, eqb, Some}
 use Rattle.std.proofs.Math.Path.{refl}
 use Rattle.std.proofs.Common.{sym, ap, ◌∙◌, append_assoc, length-take, take-append-drop, get_or-drop, ltb-false, eqb-true, arith}
 use Rattle.std.proofs.Math.Option.{none}
@@ -10,7 +10,6 @@ use Rattle.laws.specs.Laws.Pick.{pick_ind, pick_yes}
 use Rattle.laws.specs.Laws.Loop.{and_both}
 use Rattle.wire.specs.Bytes.{Bytes}
 use Rattle.rules.specs.Node.{What, packet, clock, open_face, close_face, set_route, drop_route, add_hop, drop_hop}
-use Rattle.tape.specs.declared.TapeNumber.{TapeNumber}
 use Rattle.tape.specs.Number.{Groups, cut, groups, sevens, regular, number_in, tape_number_at}
 use Rattle.tape.specs.Laws.Number.{number_is}
 use Rattle.tape.specs.Laws.NumberRound.{tape_form, number_shortest}
@@ -46,7 +45,7 @@ number_form : (l r : List ℕ) (v n : ℕ) → Bytes l → sevens l ≡ groups v
 unfolding tape_number_at number_in regular fits
 number_form l r v n b q f =
     let a = length l - length r in
-    let e : tape_number_at l 0 ≡ TapeNumber.Is v a = rw q (pick_yes _ _ _ f) in
+    let e : tape_number_at l 0 ≡ Some (v, a) = rw q (pick_yes _ _ _ f) in
     let k = (number_is l 0 v a e).same in
     let d : drop a l ≡ r = cc in
     let w : l ≡ tape_form v ++ drop a l = number_shortest l 0 v a b e in

@@ -1,7 +1,7 @@
 -- A walk over a tape's events by their places: one law for a turn and for each way to end, and where an event lies.
 -- Assumes nothing.
 use Prim.Native.Nat.{ℕ, zero, suc, ◌-◌, ◌≤◌, ◌<◌}
-use Rattle.std.specs.Prelude.{◌≡◌, refl, List, drop}
+use Rattle.std.specs.Prelude.{◌≡◌, refl, List, drop, None, Some}
 use Rattle.std.proofs.Math.Path.{sym, ap}
 use Rattle.std.proofs.Common.{◌∙◌}
 use Rattle.std.proofs.Math.Bool.{false}
@@ -12,7 +12,6 @@ use native.Mathlib.Omega.{arith}
 use Rattle.laws.specs.Pick.{pick}
 use Rattle.laws.specs.Laws.Pick.{pick_eq}
 use Rattle.tapes.specs.declared.Taken.{Taken}
-use Rattle.tapes.specs.declared.TapeEvent.{TapeEvent}
 use Rattle.tapes.specs.Tape.{Reading, unreadable, event, event_at, Tape, ends, stops, more, next, at_most, tape_of}
 use Rattle.tapes.specs.Seen.{seen}
 use Rattle.tapes.specs.Places.Event.{taken_at}
@@ -65,15 +64,15 @@ module _ (s : List ℕ) (at : ℕ) (h : at < length s) where
       rw (event_seen s at, k, length-drop at s, z, d)
 
   -- an unreadable event
-  pub rest_bad : taken_at s at ≡ TapeEvent.Bad → rest_at s at ≡ stops at
+  pub rest_bad : taken_at s at ≡ None → rest_at s at ≡ stops at
   unfolding seen next
   rest_bad e = turned ∙ rw e
 
   -- an event, and the tape goes on past it
-  pub rest_more : (e : Taken) → taken_at s at ≡ TapeEvent.Is e → rest_at s at ≡ more (given_of s e) (rest_at s e.next)
+  pub rest_more : (e : Taken) → taken_at s at ≡ Some e → rest_at s at ≡ more (given_of s e) (rest_at s e.next)
   unfolding seen next rest_at
   rest_more e q =
-      let b : event_at (drop at s) ≡ seen s (TapeEvent.Is e) = sym (event_seen s at) ∙ ap (seen s) q in
+      let b : event_at (drop at s) ≡ seen s (Some e) = sym (event_seen s at) ∙ ap (seen s) q in
       let m = event_long _ _ _ _ b in
       let x = length-drop at s in
       let y = length-drop e.next s in

@@ -10,7 +10,7 @@ returns-then-stays_local c =
     c.stays_local.ensures _ _ c.if-stays_local.true c.all_local.ensures
     c.common.ensures
 
-pub returns : goal.returns
-returns c =
+pub returns-else-stays_local : goal.returns-else-stays_local
+returns-else-stays_local c =
     λ n a x y z w.
     eligible_all most_faces n a _ _ _ _ _ x y z w _ _ c.others-set.ensures c.stays_local.ensures c.if-stays_local.false

@@ -83,58 +83,58 @@ module _ (m : ℕ) (p : ℕ → Bool) (e : Entry) (may : ℕ) (y : may ≡ faces
       (where_both m (λ g. is_some (slot g r.hops)) p ∙ where_ext m _ _ (λ g _. and_comm (is_some (slot g r.hops)) (p g))) in
       d ∙ rw (k, earliest_where m (λ g. p g && is_some (slot g r.hops)) e l, z)
 
-  module _ (x : Option Entry) (z : x ≡ some e) (prefixes settings costs : List (List ℕ)) (s : Routes) (name : List ℕ) (i u f : ℕ)
-      (l : i ≡ longest_at name (view_for m prefixes settings costs s)) (q : u ≡ given 0 (unsent_of m may) x)
-      (w : f ≡ face_or0 (given none (cheapest_of (has_face m u)) (at_place i (view_for m prefixes settings costs s)))) where
+  module _ (x : Option Entry) (z : x ≡ some e) (s : Routes) (name : List ℕ) (i u f : ℕ)
+      (l : i ≡ longest_at name (view_for m s)) (q : u ≡ given 0 (unsent_of m may) x)
+      (w : f ≡ face_or0 (given none (cheapest_of (has_face m u)) (at_place i (view_for m s)))) where
     -- the cheapest hop without an out-record, of the longest matching route
-    first_is_lem : f ≡ face_or0 (given none (cheapest_of fresh) (longest name (view_for m prefixes settings costs s)))
-    first_is_lem = w ∙ rw (unsent_is x u z q, l) (ap face_or0 (longest_cheapest m fresh prefixes settings costs s name))
+    first_is_lem : f ≡ face_or0 (given none (cheapest_of fresh) (longest name (view_for m s)))
+    first_is_lem = w ∙ rw (unsent_is x u z q, l) (ap face_or0 (longest_cheapest m fresh s name))
 
     -- "the cheapest eligible hop without an out-record"
-    there_first : (f ≡ 0 → ⊥) → f ≡ face_or0 (given none (next_hop p e) (longest name (view_for m prefixes settings costs s)))
+    there_first : (f ≡ 0 → ⊥) → f ≡ face_or0 (given none (next_hop p e) (longest name (view_for m s)))
     there_first k = first_taken _ f first_is_lem (ne_eqb f 0 k)
 
     -- "failing that, the eligible hop with the earliest one"
     there_last : (h c t : ℕ) → length e.sent ≡ m → f ≡ 0
-        → h ≡ given 0 (hops_of m) (at_place i (view_for m prefixes settings costs s))
+        → h ≡ given 0 (hops_of m) (at_place i (view_for m s))
         → c ≡ faces_where m (λ g. has_face m h g && has_face m may g)
         → t ≡ given 0 (λ e. face_or0 (earliest_of (has_face m c) e)) x
-        → t ≡ face_or0 (given none (next_hop p e) (longest name (view_for m prefixes settings costs s)))
+        → t ≡ face_or0 (given none (next_hop p e) (longest name (view_for m s)))
     unfolding given
     there_last h c t a k b d v =
-        last_taken (longest name (view_for m prefixes settings costs s)) f h c t a first_is_lem (eq-eqb f 0 k)
-        (b ∙ ap (given 0 (hops_of m)) (ap (λ (j : ℕ). at_place j (view_for m prefixes settings costs s)) l ∙ longest_place name _)) d
+        last_taken (longest name (view_for m s)) f h c t a first_is_lem (eq-eqb f 0 k)
+        (b ∙ ap (given 0 (hops_of m)) (ap (λ (j : ℕ). at_place j (view_for m s)) l ∙ longest_place name _)) d
         (v ∙ rw z)
 
-module _ (m : ℕ) (p : ℕ → Bool) (may : ℕ) (y : may ≡ faces_where m p) (prefixes settings costs : List (List ℕ)) (s : Routes)
-    (name : List ℕ) (i u f : ℕ) (l : i ≡ longest_at name (view_for m prefixes settings costs s)) where
+module _ (m : ℕ) (p : ℕ → Bool) (may : ℕ) (y : may ≡ faces_where m p) (s : Routes)
+    (name : List ℕ) (i u f : ℕ) (l : i ≡ longest_at name (view_for m s)) where
   -- of no faces the cheapest hop is none
-  none_first : u ≡ 0 → f ≡ face_or0 (given none (cheapest_of (has_face m u)) (at_place i (view_for m prefixes settings costs s))) → f ≡ 0
+  none_first : u ≡ 0 → f ≡ face_or0 (given none (cheapest_of (has_face m u)) (at_place i (view_for m s))) → f ≡ 0
   unfolding given
   none_first q w =
       w ∙ rw (q ∙ where_nothing m, l)
-      (ap face_or0 (longest_cheapest m (λ _. false) prefixes settings costs s name ∙ cheapest_none (longest name _)))
+      (ap face_or0 (longest_cheapest m (λ _. false) s name ∙ cheapest_none (longest name _)))
 
   -- the cheapest hop without an out-record, of an entry or none
   pub chosen_first : (x : Option Entry) → u ≡ given 0 (unsent_of m may) x
-      → f ≡ face_or0 (given none (cheapest_of (has_face m u)) (at_place i (view_for m prefixes settings costs s))) → (f ≡ 0 → ⊥)
-      → f ≡ face_or0 (next_of p (longest name (view_for m prefixes settings costs s)) x)
+      → f ≡ face_or0 (given none (cheapest_of (has_face m u)) (at_place i (view_for m s))) → (f ≡ 0 → ⊥)
+      → f ≡ face_or0 (next_of p (longest name (view_for m s)) x)
   unfolding next_of given
   chosen_first none q w k = absurd (k (none_first q w))
-  chosen_first (some e) q w k = there_first m p e may y (some e) refl prefixes settings costs s name i u f l q w k
+  chosen_first (some e) q w k = there_first m p e may y (some e) refl s name i u f l q w k
 
   -- failing that, the hop with the earliest one, of an entry or none
   pub chosen_last : (x : Option Entry) → u ≡ given 0 (unsent_of m may) x
-      → f ≡ face_or0 (given none (cheapest_of (has_face m u)) (at_place i (view_for m prefixes settings costs s))) → (h c t : ℕ)
+      → f ≡ face_or0 (given none (cheapest_of (has_face m u)) (at_place i (view_for m s))) → (h c t : ℕ)
       → ((e : Entry) → x ≡ some e → length e.sent ≡ m) → f ≡ 0
-      → h ≡ given 0 (hops_of m) (at_place i (view_for m prefixes settings costs s))
+      → h ≡ given 0 (hops_of m) (at_place i (view_for m s))
       → c ≡ faces_where m (λ g. has_face m h g && has_face m may g)
       → t ≡ given 0 (λ e. face_or0 (earliest_of (has_face m c) e)) x
-      → t ≡ face_or0 (next_of p (longest name (view_for m prefixes settings costs s)) x)
+      → t ≡ face_or0 (next_of p (longest name (view_for m s)) x)
   unfolding next_of given
   chosen_last none q w h c t a k b d v = v
   chosen_last (some e) q w h c t a k b d v =
-      there_last m p e may y (some e) refl prefixes settings costs s name i u f l q w h c t (a e refl) k b d v
+      there_last m p e may y (some e) refl s name i u f l q w h c t (a e refl) k b d v
 
 module _ (t : ℕ) (n : Node) (a : Arrival) (b : Bool) where
   -- "If the newest out-record was sent under 100 ms ago, send nothing."

@@ -1,18 +1,18 @@
 -- The laws by which the cursor's methods meet their definitions: bytes at a place, and one law for each outcome.
 -- Assumes nothing.
-use Rattle.std.specs.Prelude.{ℕ, suc, ◌+◌, ◌*◌, ◌-◌, ◌^◌, ◌≤◌, ◌<◌, ◌≡◌, true, ◌≢◌, get_or, take}
+use Rattle.std.specs.Prelude.{ℕ, suc, ◌+◌, ◌*◌, ◌-◌, ◌^◌, ◌≤◌, ◌<◌, ◌≡◌, true, ◌≢◌, get_or, take, None, Some}
 use Rattle.std.proofs.Math.Path.{refl}
-use Rattle.std.proofs.Common.{sym, ◌∙◌, ap, drop-cons, take-add, arith, add-mul, mul_assoc, zero-mul}
+use Rattle.std.proofs.Common.{sym, ◌∙◌, ap, drop-cons, take-add, take-suc, add-one, arith, add-mul, mul_assoc, zero-mul}
 use mathlib.Core.List.{List, [], ◌∷◌, ◌++◌}
 use Rattle.std.proofs.Math.ListN.{length, drop, length-drop, drop_of_length-le}
 use Rattle.std.proofs.Math.Seq.{drop-drop, length-take-le}
+use Rattle.std.proofs.Math.Nat.{pow-le-pow_right}
 use borrow.Author.Tests.{lt-ltb, le-ltb, eq-eqb, ne_eqb}
 use Rattle.laws.specs.Pick.{pick}
 use Rattle.wire.specs.declared.read.Cursor.{Cursor}
-use Rattle.wire.specs.declared.read.Number.{Number}
+use Rattle.wire.specs.Bytes.{Bytes}
+use Rattle.wire.specs.Laws.Bytes.{bytes_take, big_below}
 use Rattle.wire.specs.Number.{big, got, wide, long, any_number, width_of, number, is_whole}
-use Rattle.wire.specs.declared.read.Read.{Read}
-use Rattle.wire.specs.declared.read.Whole.{Whole}
 use Rattle.wire.specs.Element.{element}
 use Rattle.wire.specs.Places.Place.{cursor_at, number_in, element_in, long_number_at, any_number_at, number_at, element_at, whole_of}
 use Rattle.wire.specs.Laws.Within.{any_number_bad, any_number_is, number_bad, number_is}
@@ -43,6 +43,18 @@ pub big_snoc : (a : ℕ) (l : List ℕ) (b : ℕ) → big a (l ++ b ∷ []) ≡ 
 unfolding big
 big_snoc a l b = big_append a l (b ∷ [])
 
+-- the number of the first bytes, and one more
+pub big_next : (l : List ℕ) (i : ℕ) → i < length l → big 0 (take i l) * 256 + get_or l i 0 ≡ big 0 (take (i + 1) l)
+big_next l i h = rw (add-one i, take-suc l i 0 h, big_snoc 0 (take i l) (get_or l i 0))
+
+-- of eight bytes, what is before any one and that one fit 64 bits
+pub big_room : (l : List ℕ) (i : ℕ) → Bytes l → i < length l → length l ≤ 8 → big 0 (take i l) * 256 + 256 ≤ 2 ^ 64
+big_room l i b h e =
+    let n : length (take i l) ≡ i = length-take-le i l (omega arith) in
+    let s : big 0 (take i l) < 256 ^ i = rw n at (big_below (take i l) (bytes_take i l b)) in
+    let p : 256 ^ i ≤ 256 ^ 7 = pow-le-pow_right {n = 256} (omega arith) {i = i} {j = 7} (omega arith) in
+    omega arith
+
 -- two bytes at a place
 pub two_is : (s : List ℕ) (at : ℕ) → at + 2 ≤ length s → get_or s at 0 * 256 + get_or s (at + 1) 0 ≡ big 0 (take 2 (drop at s))
 unfolding big
@@ -64,46 +76,46 @@ unfolding cursor_at
 passed s at n h = let e : length s - length (drop n (drop at s)) ≡ at + n = rw (drop-drop n at s, length-drop (at + n) s) (omega arith) in rw e
 
 -- fewer than n bytes are left
-wide_none : (s : List ℕ) (n at : ℕ) → length s - at < n → number_in s (wide n (drop at s)) ≡ Number.Bad
+wide_none : (s : List ℕ) (n at : ℕ) → length s - at < n → number_in s (wide n (drop at s)) ≡ None
 unfolding wide number_in pick
 wide_none s n at h = rw (length-drop at s, lt-ltb (length s - at) n h)
 
 -- n bytes are there, of the number v
-wide_some : (s : List ℕ) (n v at : ℕ) → at + n ≤ length s → v ≡ big 0 (take n (drop at s)) → number_in s (wide n (drop at s)) ≡ Number.Is v (record { at = at + n })
+wide_some : (s : List ℕ) (n v at : ℕ) → at + n ≤ length s → v ≡ big 0 (take n (drop at s)) → number_in s (wide n (drop at s)) ≡ Some (v, (record { at = at + n }))
 unfolding wide number_in pick
 wide_some s n v at h q = rw (length-drop at s, le-ltb (length s - at) n (omega arith), ← q, passed s at n h)
 
 module _ (s : List ℕ) (b at : ℕ) where
-  pub two_none : b ≡ 253 → length s - at < 2 → long_number_at s b at ≡ Number.Bad
+  pub two_none : b ≡ 253 → length s - at < 2 → long_number_at s b at ≡ None
   unfolding long_number_at long pick
   two_none e h = rw (eq-eqb b 253 e) (wide_none s 2 at h)
 
-  pub two_some : (v : ℕ) → b ≡ 253 → at + 2 ≤ length s → v ≡ big 0 (take 2 (drop at s)) → long_number_at s b at ≡ Number.Is v (record { at = at + 2 })
+  pub two_some : (v : ℕ) → b ≡ 253 → at + 2 ≤ length s → v ≡ big 0 (take 2 (drop at s)) → long_number_at s b at ≡ Some (v, (record { at = at + 2 }))
   unfolding long_number_at long pick
   two_some v e h q = rw (eq-eqb b 253 e) (wide_some s 2 v at h q)
 
-  pub four_none : b ≢ 253 → b ≡ 254 → length s - at < 4 → long_number_at s b at ≡ Number.Bad
+  pub four_none : b ≢ 253 → b ≡ 254 → length s - at < 4 → long_number_at s b at ≡ None
   unfolding long_number_at long pick
   four_none f e h = rw (ne_eqb b 253 f, eq-eqb b 254 e) (wide_none s 4 at h)
 
-  pub four_some : (v : ℕ) → b ≢ 253 → b ≡ 254 → at + 4 ≤ length s → v ≡ big 0 (take 4 (drop at s)) → long_number_at s b at ≡ Number.Is v (record { at = at + 4 })
+  pub four_some : (v : ℕ) → b ≢ 253 → b ≡ 254 → at + 4 ≤ length s → v ≡ big 0 (take 4 (drop at s)) → long_number_at s b at ≡ Some (v, (record { at = at + 4 }))
   unfolding long_number_at long pick
   four_some v f e h q = rw (ne_eqb b 253 f, eq-eqb b 254 e) (wide_some s 4 v at h q)
 
-  pub eight_none : b ≢ 253 → b ≢ 254 → length s - at < 8 → long_number_at s b at ≡ Number.Bad
+  pub eight_none : b ≢ 253 → b ≢ 254 → length s - at < 8 → long_number_at s b at ≡ None
   unfolding long_number_at long pick
   eight_none f e h = rw (ne_eqb b 253 f, ne_eqb b 254 e) (wide_none s 8 at h)
 
-  pub eight_some : (v : ℕ) → b ≢ 253 → b ≢ 254 → at + 8 ≤ length s → v ≡ big 0 (take 8 (drop at s)) → long_number_at s b at ≡ Number.Is v (record { at = at + 8 })
+  pub eight_some : (v : ℕ) → b ≢ 253 → b ≢ 254 → at + 8 ≤ length s → v ≡ big 0 (take 8 (drop at s)) → long_number_at s b at ≡ Some (v, (record { at = at + 8 }))
   unfolding long_number_at long pick
   eight_some v f e h q = rw (ne_eqb b 253 f, ne_eqb b 254 e) (wide_some s 8 v at h q)
 
 module _ (s : List ℕ) (at : ℕ) where
-  pub any_none : length s ≤ at → any_number_at s at ≡ Number.Bad
+  pub any_none : length s ≤ at → any_number_at s at ≡ None
   unfolding any_number_at any_number number_in
   any_none h = let z : drop at s ≡ [] = drop_of_length-le s h in rw z
 
-  pub any_one : at < length s → get_or s at 0 < 253 → any_number_at s at ≡ Number.Is (get_or s at 0) (record { at = at + 1 })
+  pub any_one : at < length s → get_or s at 0 < 253 → any_number_at s at ≡ Some ((get_or s at 0), (record { at = at + 1 }))
   unfolding any_number_at any_number number_in pick cursor_at
   any_one h l =
       let e : length s - length (drop (at + 1) s) ≡ at + 1 = rw (length-drop (at + 1) s) (omega arith) in
@@ -119,48 +131,48 @@ unfolding cursor_at
 cursor_at_lem s at h = let e : length s - length (drop at s) ≡ at = rw (length-drop at s) (omega arith) in rw e
 
 module _ (s : List ℕ) (at : ℕ) where
-  pub number_none : any_number_at s at ≡ Number.Bad → number_at s at ≡ Number.Bad
+  pub number_none : any_number_at s at ≡ None → number_at s at ≡ None
   unfolding number_at number number_in
   number_none e = rw (any_number_bad s at e)
 
-  pub number_short : (v : ℕ) (c : Cursor) → any_number_at s at ≡ Number.Is v c → c.at - at ≡ width_of v → number_at s at ≡ Number.Is v c
+  pub number_short : (v : ℕ) (c : Cursor) → any_number_at s at ≡ Some (v, c) → c.at - at ≡ width_of v → number_at s at ≡ Some (v, c)
   unfolding number_at number number_in
   number_short v c e w =
       let f = any_number_is s at v c e in
       rw (f.same, eq-eqb (c.at - at) (width_of v) w, cursor_at_lem s c.at f.inside)
 
-  pub number_wider : (v : ℕ) (c : Cursor) → any_number_at s at ≡ Number.Is v c → c.at - at ≢ width_of v → number_at s at ≡ Number.Bad
+  pub number_wider : (v : ℕ) (c : Cursor) → any_number_at s at ≡ Some (v, c) → c.at - at ≢ width_of v → number_at s at ≡ None
   unfolding number_at number number_in
   number_wider v c e w =
       let f = any_number_is s at v c e in
       rw (f.same, ne_eqb (c.at - at) (width_of v) w)
 
-  pub element_untyped : number_at s at ≡ Number.Bad → element_at s at ≡ Read.Bad
+  pub element_untyped : number_at s at ≡ None → element_at s at ≡ None
   unfolding element_at element element_in
   element_untyped e = rw (number_bad s at e)
 
-  module _ (t : ℕ) (c : Cursor) (is : number_at s at ≡ Number.Is t c) where
-    pub element_zero : t < 1 → element_at s at ≡ Read.Bad
+  module _ (t : ℕ) (c : Cursor) (is : number_at s at ≡ Some (t, c)) where
+    pub element_zero : t < 1 → element_at s at ≡ None
     unfolding element_at element element_in
     element_zero h = rw ((number_is s at t c is).same, lt-ltb t 1 h)
 
     module _ (low : 1 ≤ t) where
-      pub element_large : 4294967295 < t → element_at s at ≡ Read.Bad
+      pub element_large : 4294967295 < t → element_at s at ≡ None
       unfolding element_at element element_in
       element_large h = rw ((number_is s at t c is).same, le-ltb t 1 low, lt-ltb 4294967295 t h)
 
       module _ (high : t ≤ 4294967295) where
-        pub element_unsized : number_at s c.at ≡ Number.Bad → element_at s at ≡ Read.Bad
+        pub element_unsized : number_at s c.at ≡ None → element_at s at ≡ None
         unfolding element_at element element_in
         element_unsized e = rw ((number_is s at t c is).same, le-ltb t 1 low, le-ltb 4294967295 t high, number_bad s c.at e)
 
-        module _ (n : ℕ) (d : Cursor) (sized : number_at s c.at ≡ Number.Is n d) where
-          pub element_long : length s - d.at < n → element_at s at ≡ Read.Bad
+        module _ (n : ℕ) (d : Cursor) (sized : number_at s c.at ≡ Some (n, d)) where
+          pub element_long : length s - d.at < n → element_at s at ≡ None
           unfolding element_at element element_in
           element_long h =
               rw ((number_is s at t c is).same, le-ltb t 1 low, le-ltb 4294967295 t high, (number_is s c.at n d sized).same, length-drop d.at s, lt-ltb (length s - d.at) n h)
 
-          pub element_is : n ≤ length s - d.at → element_at s at ≡ Read.Is (record { typ = t; at = d.at; len = n }) (record { at = d.at + n })
+          pub element_is : n ≤ length s - d.at → element_at s at ≡ Some ((record { typ = t; at = d.at; len = n }), (record { at = d.at + n }))
           unfolding element_at element element_in
           element_is h =
               let f = number_is s c.at n d sized in
@@ -186,13 +198,13 @@ unfolding number
 small b l h = rw (lt-ltb b 253 h, lt-ltb b 253 h)
 
 -- a number of one byte at a place
-small_at : (s : List ℕ) (at b : ℕ) → at < length s → b ≡ get_or s at 0 → b < 253 → number_at s at ≡ Number.Is b (record { at = at + 1 })
+small_at : (s : List ℕ) (at b : ℕ) → at < length s → b ≡ get_or s at 0 → b < 253 → number_at s at ≡ Some (b, (record { at = at + 1 }))
 unfolding number_at number_in
 small_at s at b h q l = rw (byte s at (at + 1) refl h, ← q, small b (drop (at + 1) s) l, cursor_at_lem s (at + 1) (omega arith))
 
 -- an element whose type and length have a byte each
 pub element_short : (s : List ℕ) (at t n b : ℕ) → at < length s → 2 ≤ length s - at → b ≡ at + 2 → t ≡ get_or s at 0 → n ≡ get_or s (at + 1) 0
-    → 0 < t → t < 253 → n < 253 → n ≤ length s - at - 2 → element_at s at ≡ Read.Is (record { typ = t; at = b; len = n }) (record { at = b + n })
+    → 0 < t → t < 253 → n < 253 → n ≤ length s - at - 2 → element_at s at ≡ Some ((record { typ = t; at = b; len = n }), (record { at = b + n }))
 element_short s at t n b h two place qt qn pos lt ln fits =
     let c : Cursor = record { at = at + 1 } in
     let d : Cursor = record { at = at + 1 + 1 } in
@@ -207,11 +219,11 @@ one_is (b ∷ []) h = omega arith
 one_is (b ∷ c ∷ l) h = absurd (omega arith)
 
 -- bytes of a length that a whole number can have
-pub whole_is : (n : ℕ) (l : List ℕ) → length l ≡ n → is_whole n ≡ true → (v : ℕ) → v ≡ big 0 l → Whole.Is v ≡ whole_of l
+pub whole_is : (n : ℕ) (l : List ℕ) → length l ≡ n → is_whole n ≡ true → (v : ℕ) → v ≡ big 0 l → Some v ≡ whole_of l
 unfolding whole_of pick
 whole_is n l h w v q = rw (h, w, q)
 
 -- bytes of any other length
-pub whole_not : (l : List ℕ) → length l ≢ 1 → length l ≢ 2 → length l ≢ 4 → length l ≢ 8 → Whole.Bad ≡ whole_of l
+pub whole_not : (l : List ℕ) → length l ≢ 1 → length l ≢ 2 → length l ≢ 4 → length l ≢ 8 → None ≡ whole_of l
 unfolding whole_of is_whole pick
 whole_not l a b c d = rw (ne_eqb (length l) 1 a, ne_eqb (length l) 2 b, ne_eqb (length l) 4 c, ne_eqb (length l) 8 d)

@@ -3,12 +3,11 @@
 use Prim.Native.Nat.{ℕ, zero, suc, ◌≤◌, ◌<◌}
 use Rattle.std.proofs.Math.Path.{◌≡◌, refl, sym, ap}
 use mathlib.Core.List.{List, [], ◌∷◌, map}
-use Rattle.std.specs.Prelude.{true, take, drop}
+use Rattle.std.specs.Prelude.{true, take, drop, None, Some}
 use Rattle.std.proofs.Math.ListN.{length}
 use Rattle.std.proofs.Common.{drop_of_length-le, eqb-true, arith}
 use Rattle.wire.specs.declared.read.Cursor.{Cursor}
 use Rattle.wire.specs.declared.read.Element.{Element}
-use Rattle.wire.specs.declared.read.Read.{Read}
 use Rattle.wire.specs.Element.{Elem, bad, elem, element, onward, Split, more, stop, at_most, elements, ended}
 use Rattle.wire.specs.Places.Place.{element_at}
 use Rattle.wire.specs.Laws.Within.{element_less, element_none, read_bad, read_is}
@@ -75,11 +74,11 @@ module _ {A : Type 0} (keep : ℕ → List ℕ → List ℕ → A) where
   walk_end s at h = rw (drop_of_length-le s h) elements_none
 
   -- at a fault
-  pub walk_bad : (s : List ℕ) (at : ℕ) → element_at s at ≡ Read.Bad → elements keep (drop at s) ≡ stop (drop at s)
+  pub walk_bad : (s : List ℕ) (at : ℕ) → element_at s at ≡ None → elements keep (drop at s) ≡ stop (drop at s)
   walk_bad s at e = elements_stop (drop at s) (read_bad s at e)
 
   -- at an element
-  pub walk_more : (s : List ℕ) (at : ℕ) (e : Element) (c : Cursor) → element_at s at ≡ Read.Is e c
+  pub walk_more : (s : List ℕ) (at : ℕ) (e : Element) (c : Cursor) → element_at s at ≡ Some (e, c)
       → elements keep (drop at s) ≡ more (keep e.typ (take e.len (drop e.at s)) (drop c.at s)) (elements keep (drop c.at s))
   walk_more s at e c i = elements_more (drop at s) (read_is s at e c i).same
 

@@ -1,13 +1,12 @@
 -- What is read lies within the bytes that it is read from: numbers and elements over a list, and then at a place of a slice.
 -- Assumes nothing.
-use Rattle.std.specs.Prelude.{ℕ, ◌+◌, ◌-◌, ◌≤◌, ◌<◌, ◌≡◌, refl, Bool, true, false, List, [], ◌∷◌, length, take, drop, ltb, eqb}
+use Rattle.std.specs.Prelude.{ℕ, ◌+◌, ◌-◌, ◌≤◌, ◌<◌, ◌≡◌, refl, Bool, true, false, List, [], ◌∷◌, length, take, drop, ltb, eqb, None, Some}
 use Rattle.std.proofs.Common.{◌∙◌, ap, length-drop, length-take-le, drop-drop, ltb-false, le-ltb, eqb-true, arith}
+use Rattle.laws.specs.Laws.Some.{some_pair}
 use Rattle.laws.specs.Pick.{pick}
 use Rattle.laws.specs.Laws.Pick.{pick_ind}
 use Rattle.wire.specs.declared.read.Cursor.{Cursor}
 use Rattle.wire.specs.declared.read.Element.{Element}
-use Rattle.wire.specs.declared.read.Number.{Number}
-use Rattle.wire.specs.declared.read.Read.{Read}
 use Rattle.wire.specs.Bytes.{Bytes}
 use Rattle.wire.specs.Laws.Bytes.{bytes_drop, bytes_take}
 use Rattle.wire.specs.Number.{Got, nothing, got, wide, long, any_number, width_of, shortest, number}
@@ -91,17 +90,17 @@ pub record Parts (l : List ℕ) (t : ℕ) (v r : List ℕ) : Type 0 where
   pub rest : r ≡ drop (length v) body
 
 -- what Parts says of an element that is read, if one is
-abbrev Some : List ℕ → Elem → Type 0
-Some l bad = Unit {0}
-Some l (elem t v r) = Parts l t v r
+abbrev Holds : List ℕ → Elem → Type 0
+Holds l bad = Unit {0}
+Holds l (elem t v r) = Parts l t v r
 
 -- the value, once type and length are read
 some_valued : (l : List ℕ) (t w : ℕ) (l' : List ℕ) → number l ≡ got t w l' → 1 ≤ t → t ≤ 4294967295
-    → (g : Got) → number l' ≡ g → Some l (valued t g)
+    → (g : Got) → number l' ≡ g → Holds l (valued t g)
 unfolding valued
 some_valued l t w l' p lo hi nothing q = tt
 some_valued l t w l' p lo hi (got n w' m) q =
-    pick_ind (Some l) (ltb (length m) n) _ _ (λ k. tt)
+    pick_ind (Holds l) (ltb (length m) n) _ _ (λ k. tt)
     (λ k.
     let h : n ≤ length m = ltb-false (length m) n k in
     let z : length (take n m) ≡ n = length-take-le n m h in
@@ -120,16 +119,16 @@ some_valued l t w l' p lo hi (got n w' m) q =
     })
 
 -- the type, and what follows it
-some_typed : (l : List ℕ) (g : Got) → number l ≡ g → Some l (typed number g)
+some_typed : (l : List ℕ) (g : Got) → number l ≡ g → Holds l (typed number g)
 unfolding typed
 some_typed l nothing p = tt
 some_typed l (got t w l') p =
-    pick_ind (Some l) (ltb t 1) _ _ (λ k. tt)
-    (λ k. pick_ind (Some l) (ltb 4294967295 t) _ _ (λ j. tt)
+    pick_ind (Holds l) (ltb t 1) _ _ (λ k. tt)
+    (λ k. pick_ind (Holds l) (ltb 4294967295 t) _ _ (λ j. tt)
     (λ j. some_valued l t w l' p (ltb-false t 1 k) (ltb-false 4294967295 t j) (number l') refl))
 
 -- an element
-some_element : (l : List ℕ) → Some l (element l)
+some_element : (l : List ℕ) → Holds l (element l)
 unfolding element
 some_element l = some_typed l (number l) refl
 
@@ -211,54 +210,55 @@ pub record Found (s : List ℕ) (at : ℕ) (e : Element) (c : Cursor) : Type 0 w
   pub high : e.typ ≤ 4294967295
 
 -- a fault at a place is a fault over the list
-number_in_bad : (s : List ℕ) (g : Got) → number_in s g ≡ Number.Bad → g ≡ nothing
+number_in_bad : (s : List ℕ) (g : Got) → number_in s g ≡ None → g ≡ nothing
 unfolding number_in
 number_in_bad s nothing e = refl
 number_in_bad s (got v w r) e = cc
 
 -- a number at a place is one over the list, and its cursor stands behind it
 number_in_is : (num : List ℕ → Got) (s : List ℕ) (at v : ℕ) (c : Cursor) (g : Got)
-    → num (drop at s) ≡ g → Any (drop at s) g → number_in s g ≡ Number.Is v c → NumberFound num s at v c
+    → num (drop at s) ≡ g → Any (drop at s) g → number_in s g ≡ Some (v, c) → NumberFound num s at v c
 unfolding number_in cursor_at
 number_in_is num s at v c nothing q i e = absurd (let z : ◌≡◌ {A = ℕ} 0 1 = cc in omega arith)
 number_in_is num s at v c (got v' w r) q i e =
     let d : r ≡ drop (at + w) s = i.rest ∙ drop-drop w at s in
     let k : at + w ≤ length s = omega (arith, i.some, i.fits, length-drop at s) in
     let m : length s - length r ≡ at + w = omega (arith, ap length d, length-drop (at + w) s) in
+    let p = some_pair e in
     let x : c.at ≡ at + w = cc in
-    let y : v' ≡ v = cc in
+    let y : v' ≡ v = p.0 in
     let z : w ≡ c.at - at = omega arith in
     record { same = cc; early = omega (arith, i.some); inside = omega arith }
 
 -- no number in any form at a place
-pub any_number_bad : (s : List ℕ) (at : ℕ) → any_number_at s at ≡ Number.Bad → any_number (drop at s) ≡ nothing
+pub any_number_bad : (s : List ℕ) (at : ℕ) → any_number_at s at ≡ None → any_number (drop at s) ≡ nothing
 unfolding any_number_at
 any_number_bad s at e = number_in_bad s (any_number (drop at s)) e
 
 -- a number in any form at a place
-pub any_number_is : (s : List ℕ) (at v : ℕ) (c : Cursor) → any_number_at s at ≡ Number.Is v c → NumberFound any_number s at v c
+pub any_number_is : (s : List ℕ) (at v : ℕ) (c : Cursor) → any_number_at s at ≡ Some (v, c) → NumberFound any_number s at v c
 unfolding any_number_at
 any_number_is s at v c e = number_in_is any_number s at v c (any_number (drop at s)) refl (any_any (drop at s)) e
 
 -- no number in its shortest form at a place
-pub number_bad : (s : List ℕ) (at : ℕ) → number_at s at ≡ Number.Bad → number (drop at s) ≡ nothing
+pub number_bad : (s : List ℕ) (at : ℕ) → number_at s at ≡ None → number (drop at s) ≡ nothing
 unfolding number_at
 number_bad s at e = number_in_bad s (number (drop at s)) e
 
 -- a number in its shortest form at a place
-pub number_is : (s : List ℕ) (at v : ℕ) (c : Cursor) → number_at s at ≡ Number.Is v c → NumberFound number s at v c
+pub number_is : (s : List ℕ) (at v : ℕ) (c : Cursor) → number_at s at ≡ Some (v, c) → NumberFound number s at v c
 unfolding number_at
 number_is s at v c e = number_in_is number s at v c (number (drop at s)) refl (any_number_lem (drop at s)) e
 
 -- a fault at a place is a fault over the list
-element_in_bad : (s : List ℕ) (x : Elem) → element_in s x ≡ Read.Bad → x ≡ bad
+element_in_bad : (s : List ℕ) (x : Elem) → element_in s x ≡ None → x ≡ bad
 unfolding element_in
 element_in_bad s bad e = refl
 element_in_bad s (elem t v r) e = cc
 
 -- an element at a place is one over the list, with the places of its value and of what follows it
 element_in_is : (s : List ℕ) (at : ℕ) (e : Element) (c : Cursor) (x : Elem)
-    → element (drop at s) ≡ x → element_in s x ≡ Read.Is e c → Found s at e c
+    → element (drop at s) ≡ x → element_in s x ≡ Some (e, c) → Found s at e c
 unfolding element_in cursor_at
 element_in_is s at e c bad q i = absurd (let z : ◌≡◌ {A = ℕ} 0 1 = cc in omega arith)
 element_in_is s at e c (elem t v r) q i =
@@ -268,6 +268,9 @@ element_in_is s at e c (elem t v r) q i =
     let k : at + (h.head + length v) ≤ length s = omega (arith, h.two, h.fits, length-drop at s) in
     let m : length s - length r ≡ at + (h.head + length v) = omega (arith, ap length d, length-drop (at + (h.head + length v)) s) in
     let n : length s - length r - length v ≡ at + h.head = omega arith in
+    let p = some_pair i in
+    let f = p.0 in
+    let g = p.1 in
     let w : t ≡ e.typ = cc in
     let x : at + h.head ≡ e.at = cc in
     let y : length v ≡ e.len = cc in
@@ -282,12 +285,12 @@ element_in_is s at e c (elem t v r) q i =
     }
 
 -- no element at a place
-pub read_bad : (s : List ℕ) (at : ℕ) → element_at s at ≡ Read.Bad → element (drop at s) ≡ bad
+pub read_bad : (s : List ℕ) (at : ℕ) → element_at s at ≡ None → element (drop at s) ≡ bad
 unfolding element_at
 read_bad s at e = element_in_bad s (element (drop at s)) e
 
 -- an element at a place
-pub read_is : (s : List ℕ) (at : ℕ) (e : Element) (c : Cursor) → element_at s at ≡ Read.Is e c → Found s at e c
+pub read_is : (s : List ℕ) (at : ℕ) (e : Element) (c : Cursor) → element_at s at ≡ Some (e, c) → Found s at e c
 unfolding element_at
 read_is s at e c i = element_in_is s at e c (element (drop at s)) refl i
 

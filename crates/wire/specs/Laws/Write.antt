@@ -1,18 +1,20 @@
 -- Laws of writing: runs of stores, the bytes of a number, its shortest form, a head, a copy, and the two outcomes of a writer.
 -- Assumes nothing.
-use Rattle.std.specs.Prelude.{ℕ, zero, suc, ◌+◌, ◌-◌, ◌/◌, ◌%◌, ◌^◌, ◌≤◌, ◌<◌, Bool, List, [], ◌∷◌, ◌++◌, set, take, ltb}
+use Rattle.std.specs.Prelude.{ℕ, zero, suc, ◌+◌, ◌-◌, ◌/◌, ◌%◌, ◌^◌, ◌≤◌, ◌<◌, Bool, List, [], ◌∷◌, ◌++◌, set, take, drop, ltb, None, Option, Some}
+use Rattle.std.specs.Int.{byte_at, bytes_high_first}
+use borrow.Rule.Slice.PartMut.{put_mid}
+use Rattle.std.proofs.lemmas.List.Edits.{sets-eq}
 use Rattle.std.proofs.Math.Path.{◌≡◌, refl, ap}
 use Rattle.std.proofs.Common.{sym, ◌∙◌, append-nil, append_assoc, length-append, lt-ltb, le-ltb, ltb-true, ltb-false, leb-true, leb-false, le-leb, add-zero, add-suc, add-one, arith}
 use Rattle.std.proofs.Math.Bool.{true, false}
 use Rattle.std.proofs.Math.ListN.{length}
-use Rattle.std.proofs.Math.Seq.{sets}
+use Rattle.std.proofs.Math.Seq.{sets, drop-drop}
 use Rattle.std.proofs.Math.Dec.{leb}
 use Rattle.std.proofs.lemmas.Bool.{lt-leb}
 use Rattle.std.proofs.Math.Nat.{pow-succ', div-div-eq-div-mul}
 use Rattle.laws.specs.Laws.Writes.{sets_append, sets_back}
 use Rattle.laws.specs.Pick.{pick}
 use Rattle.laws.specs.Laws.Pick.{pick_ap}
-use Rattle.wire.specs.declared.write.Put.{Put}
 use Rattle.wire.specs.Number.{width_of}
 use Rattle.wire.specs.Write.{bytes_of, encoded, head_of}
 use Rattle.wire.specs.Places.Write.{Outcome, outcome, wrote}
@@ -30,6 +32,24 @@ bytes_of_add j zero n = let e : n / 1 ≡ n = omega arith in rw (add-zero j, e, 
 bytes_of_add j (suc k) n =
     let e : n / 256 ^ suc k ≡ n / 256 / 256 ^ k = rw (pow-succ' 256 k, div-div-eq-div-mul n 256 (256 ^ k)) in
     rw (add-suc j k, e, bytes_of_add j k (n / 256), append_assoc)
+
+-- the lowest k bytes of n, as the library tells them
+pub bytes_high : (k n : ℕ) → bytes_high_first k n ≡ bytes_of k n
+unfolding bytes_of
+bytes_high zero n = refl
+bytes_high (suc k) n =
+    let e : suc k ≡ 1 + k = omega arith in
+    rw (byte_is k n, bytes_high k n) (sym (ap (λ j. bytes_of j n) e ∙ bytes_of_add 1 k n))
+  where
+    byte_is : (i m : ℕ) → byte_at i m ≡ m / 256 ^ i % 256
+    byte_is zero m = let d : m / 1 ≡ m = omega arith in rw d
+    byte_is (suc i) m = refl
+
+-- a part of a buffer where vs was copied: a run of stores
+pub part_stored : (b vs c : List ℕ) (at k : ℕ) → at + length vs ≤ length b → k ≡ length vs → c ≡ vs → put_mid at k b c ≡ sets b at vs
+part_stored b vs c at k h e q =
+    let d : drop k (drop at b) ≡ drop (at + length vs) b = drop-drop k at b ∙ ap (λ m. drop (at + m) b) e in
+    ap (λ l. take at b ++ (l ++ drop k (drop at b))) q ∙ ap (λ l. take at b ++ (vs ++ l)) d ∙ sym (append_assoc (take at b) vs _) ∙ sym (sets-eq vs b at h)
 
 -- the two halves of n, stored one after the other
 pub halves_stored : (k n at : ℕ) (b c d : List ℕ) → c ≡ sets b at (bytes_of k (n / 256 ^ k)) → d ≡ sets c (at + k) (bytes_of k n)
@@ -130,50 +150,50 @@ room_left all at len h = go (leb len (all - at)) refl
 
 -- the outcome where vs, of m bytes, is found to fit and is stored: the answer is the place behind it
 pub wrote_fits : {r : Bool} (b : List ℕ) (at m : ℕ) (vs c : List ℕ) → length vs ≡ m → r ≡ leb (at + m) (length b) → r ≡ true
-    → c ≡ sets b at vs → outcome (Put.Next (at + m)) c ≡ wrote b at vs
+    → c ≡ sets b at vs → outcome (Some (at + m)) c ≡ wrote b at vs
 unfolding wrote pick
 wrote_fits b at m vs c e p t s = rw (e, sym p ∙ t, s)
 
 -- the outcome where vs, of m bytes, is found not to fit: the buffer is as it was
 pub wrote_full : {r : Bool} (b : List ℕ) (at m : ℕ) (vs : List ℕ) → length vs ≡ m → r ≡ leb (at + m) (length b) → r ≡ false
-    → outcome Put.Full b ≡ wrote b at vs
+    → outcome None b ≡ wrote b at vs
 unfolding wrote pick
 wrote_full b at m vs e p t = rw (e, sym p ∙ t)
 
 -- what a writer's answer p and the buffer c that it leaves tell
-module _ (b : List ℕ) (at : ℕ) (vs c : List ℕ) {p : Put} (is : outcome p c ≡ wrote b at vs) where
+module _ (b : List ℕ) (at : ℕ) (vs c : List ℕ) {p : Option ℕ} (is : outcome p c ≡ wrote b at vs) where
   -- where it answers a place the bytes fit, they stand in the buffer, and the place is the one behind them
-  pub answer_next : {r : ℕ} → p ≡ Put.Next r → (at + length vs ≤ length b) × (c ≡ sets b at vs) × (r ≡ at + length vs)
+  pub answer_next : {r : ℕ} → p ≡ Some r → (at + length vs ≤ length b) × (c ≡ sets b at vs) × (r ≡ at + length vs)
   unfolding wrote pick
   answer_next {r} n = go (leb (at + length vs) (length b)) refl is
     where
       go : (f : Bool) → leb (at + length vs) (length b) ≡ f
-          → outcome p c ≡ pick f (outcome (Put.Next (at + length vs)) (sets b at vs)) (outcome Put.Full b)
+          → outcome p c ≡ pick f (outcome (Some (at + length vs)) (sets b at vs)) (outcome None b)
           → (at + length vs ≤ length b) × (c ≡ sets b at vs) × (r ≡ at + length vs)
       go true t e =
-          let m : p ≡ Put.Next (at + length vs) = ap (λ (o : Outcome). o.next) e in
+          let m : p ≡ Some (at + length vs) = ap (λ (o : Outcome). o.next) e in
           (leb-true (at + length vs) (length b) t, ap (λ (o : Outcome). o.buffer) e, cc)
       go false t e =
-          let m : p ≡ Put.Full = ap (λ (o : Outcome). o.next) e in
+          let m : p ≡ None = ap (λ (o : Outcome). o.next) e in
           let z : ◌≡◌ {A = ℕ} 0 1 = cc in
           absurd (omega arith)
 
   -- where it answers that it is full the bytes do not fit, and the buffer is as it was
-  pub answer_full : p ≡ Put.Full → (length b < at + length vs) × (c ≡ b)
+  pub answer_full : p ≡ None → (length b < at + length vs) × (c ≡ b)
   unfolding wrote pick
   answer_full n = go (leb (at + length vs) (length b)) refl is
     where
       go : (f : Bool) → leb (at + length vs) (length b) ≡ f
-          → outcome p c ≡ pick f (outcome (Put.Next (at + length vs)) (sets b at vs)) (outcome Put.Full b)
+          → outcome p c ≡ pick f (outcome (Some (at + length vs)) (sets b at vs)) (outcome None b)
           → (length b < at + length vs) × (c ≡ b)
       go true t e =
-          let m : p ≡ Put.Next (at + length vs) = ap (λ (o : Outcome). o.next) e in
+          let m : p ≡ Some (at + length vs) = ap (λ (o : Outcome). o.next) e in
           let z : ◌≡◌ {A = ℕ} 0 1 = cc in
           absurd (omega arith)
       go false t e = (leb-false (at + length vs) (length b) t, ap (λ (o : Outcome). o.buffer) e)
 
 -- what was written at the start of a row that it fits into is read back
-pub put_back : (row vs after : List ℕ) (r : Put) → outcome r after ≡ wrote row 0 vs → length vs ≤ length row → take (length vs) after ≡ vs
+pub put_back : (row vs after : List ℕ) (r : Option ℕ) → outcome r after ≡ wrote row 0 vs → length vs ≤ length row → take (length vs) after ≡ vs
 unfolding wrote pick
 put_back row vs after r e h =
     let fits : leb (0 + length vs) (length row) ≡ true = le-leb (0 + length vs) (length row) (omega arith) in

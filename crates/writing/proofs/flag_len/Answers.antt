@@ -9,6 +9,6 @@ pub returns-then-on : goal.returns-then-on
 unfolding flag pick
 returns-then-on c = rw c.if-on.true (c.element_len.ensures [] refl)
 
-pub returns : goal.returns
+pub returns-else-on : goal.returns-else-on
 unfolding flag pick
-returns c = rw c.if-on.false
+returns-else-on c = rw c.if-on.false

@@ -10,8 +10,8 @@ pub returns-then-reason-eq0 : goal.returns-then-reason-eq0
 unfolding reason_bytes pick
 returns-then-reason-eq0 c = rw (eq-eqb c.args.reason 0 c.if-reason-eq0.true)
 
-pub returns : goal.returns
+pub returns-else-reason-eq0 : goal.returns-else-reason-eq0
 unfolding reason_bytes pick
-returns c =
+returns-else-reason-eq0 c =
     let reason = c.args.reason in
     rw (ne_eqb reason 0 c.if-reason-eq0.false) (c.element_len.ensures (reason ∷ []) refl)

@@ -1,5 +1,5 @@
 -- `store_cause` meets its contract: the head and then the NackReason are the Nack.
-use Rattle.writing.specs.Laws.Stored.{room_head, room_value, stored_element, stored_length}
+use Rattle.writing.specs.Laws.Stored.{room_head, room_value, stored_element}
 use Rattle.writing.proofs.store_cause.Goals as goal
 
 pub store_head-from-requires : goal.store_head-from-requires
@@ -10,6 +10,3 @@ store_reason-requires c = room_value 0x0320 _ _ c.reason_len.ensures c.store_hea
 
 pub returns : goal.returns
 returns c = stored_element 0x0320 _ _ c.reason_len.ensures c.store_head-from.ensures c.store_reason.ensures
-
-pub shape_of-buf : goal.shape_of-buf
-shape_of-buf c = stored_length (returns c)

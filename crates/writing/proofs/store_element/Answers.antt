@@ -1,6 +1,6 @@
 -- `store_element` meets its contract: the head and then the value are the element.
 use mathlib.Core.Path.{refl}
-use Rattle.writing.specs.Laws.Stored.{room_head, room_value, stored_element, stored_length}
+use Rattle.writing.specs.Laws.Stored.{room_head, room_value, stored_element}
 use Rattle.writing.proofs.store_element.Goals as goal
 
 pub store_head-from-requires : goal.store_head-from-requires
@@ -11,6 +11,3 @@ store_bytes-requires c = room_value _ _ _ refl c.store_head-from.ensures c.requi
 
 pub returns : goal.returns
 returns c = stored_element _ _ _ refl c.store_head-from.ensures c.store_bytes.ensures
-
-pub shape_of-buf : goal.shape_of-buf
-shape_of-buf c = stored_length (returns c)

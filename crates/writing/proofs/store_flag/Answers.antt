@@ -1,5 +1,5 @@
 -- `store_flag` meets its contract: a flag that is set is a head that announces no value.
-use Rattle.writing.specs.Laws.Stored.{head_alone, stored_none, stored_length}
+use Rattle.writing.specs.Laws.Stored.{head_alone, stored_none}
 use Rattle.writing.specs.Written.{flag}
 use Rattle.laws.specs.Pick.{pick}
 use Rattle.writing.proofs.store_flag.Goals as goal
@@ -12,9 +12,6 @@ pub returns-then-on : goal.returns-then-on
 unfolding flag pick
 returns-then-on c = rw (c.if-on.true, ← head_alone c.args.typ) c.store_head.ensures
 
-pub shape_of-buf-then-on : goal.shape_of-buf-then-on
-shape_of-buf-then-on c = stored_length c.store_head.ensures
-
-pub returns : goal.returns
+pub returns-else-on : goal.returns-else-on
 unfolding flag pick
-returns c = rw c.if-on.false (stored_none _ _)
+returns-else-on c = rw c.if-on.false (stored_none _ _)

@@ -1,20 +1,6 @@
--- `store_head` meets its contract: there is room, so that `put_head` finds it.
-use native.Mathlib.Omega.{arith}
-use Rattle.writing.specs.Laws.Stored.{put_next, put_full, stored_length}
+-- There is room, so that `put_head` finds it.
+use Rattle.writing.specs.Laws.Stored.{put_stored}
 use Rattle.writing.proofs.store_head.Goals as goal
 
-pub returns-in-Full : goal.returns-in-Full
-returns-in-Full c =
-    let full = put_full _ _ _ _ c.put_head.ensures c.in-Full.is in
-    absurd (omega (arith, c.requires.fits, full.0))
-
-pub shape_of-buf-in-Full : goal.shape_of-buf-in-Full
-shape_of-buf-in-Full c =
-    let full = put_full _ _ _ _ c.put_head.ensures c.in-Full.is in
-    absurd (omega (arith, c.requires.fits, full.0))
-
-pub returns-in-Next : goal.returns-in-Next
-returns-in-Next c = (put_next _ _ _ _ c.put_head.ensures c.in-Next.is).1
-
-pub shape_of-buf-in-Next : goal.shape_of-buf-in-Next
-shape_of-buf-in-Next c = stored_length (put_next _ _ _ _ c.put_head.ensures c.in-Next.is).1
+pub returns : goal.returns
+returns c = put_stored _ _ _ _ c.put_head.ensures c.unwrap_or.ensures c.requires

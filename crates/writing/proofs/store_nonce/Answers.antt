@@ -1,13 +1,9 @@
--- `store_nonce` meets its contract: the array is the four bytes of the nonce.
-use Rattle.writing.specs.Laws.Stored.{stored_length}
-use Rattle.writing.specs.Laws.Written.{nonce_bytes}
+-- The array's last four bytes are those of the nonce.
+use Rattle.wire.specs.Laws.Write.{bytes_high}
 use Rattle.writing.proofs.store_nonce.Goals as goal
 
 pub store_element-requires : goal.store_element-requires
-store_element-requires c = rw nonce_bytes c.requires
+store_element-requires c = rw (c.to_be_bytes-bytes.ensures, bytes_high 4 c.args.nonce) c.requires
 
 pub returns : goal.returns
-returns c = rw (← nonce_bytes) c.store_element.ensures
-
-pub shape_of-buf : goal.shape_of-buf
-shape_of-buf c = stored_length (returns c)
+returns c = rw (c.to_be_bytes-bytes.ensures, bytes_high 4 c.args.nonce) at c.store_element.ensures

@@ -1,5 +1,5 @@
 -- `store_reason` meets its contract: a NackReason that is not left out is an element of one byte.
-use Rattle.writing.specs.Laws.Stored.{stored_none, stored_length}
+use Rattle.writing.specs.Laws.Stored.{stored_none}
 use Rattle.writing.specs.Written.{reason_bytes}
 use Rattle.laws.specs.Pick.{pick}
 use borrow.Author.Tests.{eq-eqb, ne_eqb}
@@ -13,9 +13,6 @@ pub store_element-requires : goal.store_element-requires
 unfolding reason_bytes pick
 store_element-requires c = rw (ne_eqb c.args.reason 0 c.if-reason-eq0.false) at c.requires
 
-pub returns : goal.returns
+pub returns-else-reason-eq0 : goal.returns-else-reason-eq0
 unfolding reason_bytes pick
-returns c = rw (ne_eqb c.args.reason 0 c.if-reason-eq0.false) c.store_element.ensures
-
-pub shape_of-buf : goal.shape_of-buf
-shape_of-buf c = stored_length c.store_element.ensures
+returns-else-reason-eq0 c = rw (ne_eqb c.args.reason 0 c.if-reason-eq0.false) c.store_element.ensures

@@ -1,6 +1,6 @@
 -- A forwarded Interest is read back: it asks the same with a HopLimit one lower, if it has one.
 -- Assumes nothing.
-use Rattle.std.specs.Prelude.{ℕ, ◌+◌, ◌-◌, ◌%◌, ◌^◌, ◌≤◌, ◌<◌, ◌≡◌, Bool, ◌≢◌, List, [], ◌∷◌, set}
+use Rattle.std.specs.Prelude.{ℕ, ◌+◌, ◌-◌, ◌%◌, ◌^◌, ◌≤◌, ◌<◌, ◌≡◌, Bool, ◌≢◌, List, [], ◌∷◌, set, Ok}
 use Rattle.std.proofs.Math.Path.{refl, ap}
 use Rattle.std.proofs.Common.{sym, ◌∙◌, eqb-true, eq-eqb}
 use Rattle.std.proofs.Math.Option.{some}
@@ -14,7 +14,8 @@ use Rattle.wire.specs.Element.{elem, element}
 use Rattle.wire.specs.Laws.Within.{element_less, value_bytes}
 use Rattle.wire.specs.Laws.Change.{changed, length_changed, changed_set, element_changed}
 use Rattle.grammar.specs.Types.{interest}
-use Rattle.grammar.specs.Table.{table, fits, one}
+use Rattle.grammar.specs.declared.Rule.{Rule}
+use Rattle.grammar.specs.Table.{table, fits}
 use Rattle.grammar.specs.Laws.Table.{each_row}
 use Rattle.grammar.specs.Laws.Fits.{Fitting, walked_fits, ruled, fitting_rule}
 use Rattle.grammar.specs.Walk.{Field, absent, here, Fields, walked}
@@ -35,7 +36,7 @@ use Rattle.writing.specs.Back.{lower_hop, lower, Asks}
 -- a HopLimit is one byte
 hop_one : (v : List ℕ) → Fitting interest 7 v → length v ≡ 1
 unfolding fits pick
-hop_one v f = eqb-true (length v) 1 (fitting_rule interest 7 one v (unfold table each_row ruled in refl) (omega arith) f)
+hop_one v f = eqb-true (length v) 1 (fitting_rule interest 7 Rule.One v (unfold table each_row ruled in refl) (omega arith) f)
 
 -- the number in one byte
 whole_one : (b : ℕ) → whole_number (b ∷ []) ≡ b
@@ -156,7 +157,7 @@ forward_back l bytes e =
 
 -- what is written of an Interest that the reader answers is what leaves
 pub forward_leaves : (s : List ℕ) (b : Bare) (i : Interest) {a : Ask} {c : List ℕ} → header_read s ≡ bare b
-    → packet_in (length b.bytes) (bare_read b.nack b.marked b.bytes) ≡ Packet.Interest i → heard s ≡ asks a c
+    → packet_in (length b.bytes) (bare_read b.nack b.marked b.bytes) ≡ Ok (Packet.Interest i) → heard s ≡ asks a c
     → lowered b.bytes i.hop ≡ c
 unfolding seen
 forward_leaves s b i came p h =

@@ -1,7 +1,7 @@
 -- A Nack that is written is read back: its reason, and the name, the flags and the nonce of the Interest in it.
 -- Assumes nothing.
 use Prim.Native.Nat.{ℕ, ◌^◌, ◌≤◌, ◌<◌}
-use Rattle.std.specs.Prelude.{◌≡◌, Bool, true, eqb}
+use Rattle.std.specs.Prelude.{◌≡◌, Bool, true, eqb, Option, Some}
 use Rattle.std.proofs.Math.Path.{refl, sym, ap}
 use Rattle.std.proofs.Common.{◌∙◌, arith}
 use Rattle.std.proofs.Math.Bool.{false}
@@ -23,7 +23,6 @@ use Rattle.grammar.specs.Types.{interest, lp_packet as lp, nack}
 use Rattle.grammar.specs.Table.{table, row_of, fits, other}
 use Rattle.grammar.specs.Walk.{said_with, known, judged, item, Field, absent, here, Fields, no_fields, met, walked_from, walked}
 use Rattle.grammar.specs.Laws.Walk.{walked_from_lem, walked_none, walked_end, walked_written}
-use Rattle.packethead.specs.declared.header.Nacked.{Nacked}
 use Rattle.packethead.specs.Header.{val, bytes_in, present, whole_number, bare, lp_read, header_read}
 use Rattle.packets.specs.Bare.{bare_read, asked_by, lifetime_of}
 use Rattle.packets.specs.Laws.Shape.{bare_interest, Asking, asking_read, header_lp, heard_bare_lem, bare_means}
@@ -140,7 +139,7 @@ element_alone : (t : ℕ) (v : List ℕ) → 1 ≤ t → t < 2 ^ 32 → length v
 element_alone t v l h k = rw append-nil at (element_written t v [] l h k)
 
 -- an Interest of Name, flags and Nonce that is written is read back, with the Nack that brings it
-request_back : (k : Nacked) (name : List ℕ) (p m : Bool) (nonce : ℕ) → Well name
+request_back : (k : Option ℕ) (name : List ℕ) (p m : Bool) (nonce : ℕ) → Well name
     → bare_read k false (request_bytes name p m nonce) ≡ asked_by k (walked interest (request_value name p m nonce))
 unfolding request_bytes
 request_back k name p m nonce h =
@@ -191,7 +190,7 @@ lp_fields_lem r v h k =
 
 -- an LpPacket of a Nack and a Fragment is read as these
 lp_back : (r v : List ℕ) (n : ℕ) → length r < 2 ^ 64 → length v < 2 ^ 64 → Says (walked nack r) n
-    → lp_read (written 0x0320 r ++ written 0x50 v) ≡ bare (record { nack = Nacked.Reason n; marked = false; bytes = v; left = 0 })
+    → lp_read (written 0x0320 r ++ written 0x50 v) ≡ bare (record { nack = Some n; marked = false; bytes = v; left = 0 })
 unfolding lp_read
 lp_back r v n h k s = rw (lp_fields_lem r v h k, s.fine, s.reason)
 
@@ -199,7 +198,7 @@ module _ (reason : ℕ) (name : List ℕ) (p m : Bool) (nonce : ℕ) where
   -- the header of a Nack that is written is read back
   nack_header : length name ≤ 255
       → header_read (nack_bytes reason name p m nonce)
-      ≡ bare (record { nack = Nacked.Reason reason; marked = false; bytes = request_bytes name p m nonce; left = 0 })
+      ≡ bare (record { nack = Some reason; marked = false; bytes = request_bytes name p m nonce; left = 0 })
   unfolding nack_value
   nack_header h =
       let r : List ℕ = reason_bytes reason in
@@ -220,8 +219,8 @@ module _ (reason : ℕ) (name : List ℕ) (p m : Bool) (nonce : ℕ) where
   nack_back well h =
       let b : List ℕ = request_bytes name p m nonce in
       heard_bare_lem (nack_bytes reason name p m nonce) (nack_header well.short)
-      ∙ bare_means (Nacked.Reason reason) false b
-      ∙ ap (meant b) (request_back (Nacked.Reason reason) name p m nonce well)
+      ∙ bare_means (Some reason) false b
+      ∙ ap (meant b) (request_back (Some reason) name p m nonce well)
       ∙ ap (nacks reason) (asked_means h (request_fields name p m nonce well.short))
 
 -- so a Nack for an Interest that was read is read back

@@ -1,7 +1,7 @@
 -- What a writer that has room leaves: bytes stored from a place on, and the place behind them.
 -- Assumes nothing.
-use Rattle.std.specs.Prelude.{ℕ, zero, suc, ◌+◌, ◌-◌, ◌≤◌, ◌<◌, ◌≡◌, refl, List, [], ◌∷◌, ◌++◌, length, set, ltb}
-use Rattle.std.proofs.Common.{sym, ◌∙◌, ap, append-nil, length-set, length-append, set-set, le-leb, ltb-true, ltb-false, add-zero, arith}
+use Rattle.std.specs.Prelude.{ℕ, zero, suc, ◌+◌, ◌-◌, ◌≤◌, ◌<◌, ◌≡◌, refl, Bool, true, false, List, [], ◌∷◌, ◌++◌, length, set, leb, ltb, None, Option, Some}
+use Rattle.std.proofs.Common.{sym, ◌∙◌, ap, append-nil, length-set, length-append, set-set, le-leb, leb-true, leb-false, ltb-true, ltb-false, add-zero, arith}
 use Rattle.std.proofs.lemmas.List.Edits.{sets}
 use Rattle.std.proofs.Math.Seq.{length-sets, set_out}
 use Rattle.std.proofs.lemmas.List.{set_comm}
@@ -9,10 +9,10 @@ use Rattle.std.proofs.lemmas.Bool.{lt-leb}
 use Rattle.laws.specs.Pick.{pick}
 use Rattle.laws.specs.Laws.Pick.{pick_ind}
 use Rattle.laws.specs.Laws.Writes.{sets_append}
-use Rattle.wire.specs.declared.write.Put.{Put}
 use Rattle.wire.specs.Laws.Write.{wrote_fits, wrote_full, answer_next, answer_full}
 use Rattle.wire.specs.Write.{head_of, written}
-use Rattle.wire.specs.Places.Write.{outcome, wrote}
+use Rattle.wire.specs.Places.Write.{Outcome, outcome, wrote}
+use Rattle.std.specs.Option.{unwrap_or}
 use Rattle.writing.specs.Places.Stored.{Room, Stored}
 
 -- the buffer keeps its length
@@ -63,22 +63,30 @@ unfolding written
 head_alone t = sym (append-nil (head_of t 0))
 
 -- a writer that looks for room, its answer p and the buffer c that it leaves
-module _ (b : List ℕ) (at : ℕ) (vs c : List ℕ) {p : Put} (is : outcome p c ≡ wrote b at vs) where
+module _ (b : List ℕ) (at : ℕ) (vs c : List ℕ) {p : Option ℕ} (is : outcome p c ≡ wrote b at vs) where
   -- where it answers a place it found room, and stored vs
-  pub put_next : {r : ℕ} → p ≡ Put.Next r → Room b at vs × Stored b at vs c r
+  pub put_next : {r : ℕ} → p ≡ Some r → Room b at vs × Stored b at vs c r
   put_next n = let a = answer_next b at vs c is n in (record { fits = a.0 }, record { buffer = a.1; next = a.2 })
 
   -- where it answers that it is full it found no room, and left b as it was
-  pub put_full : p ≡ Put.Full → (length b < at + length vs) × (c ≡ b)
+  pub put_full : p ≡ None → (length b < at + length vs) × (c ≡ b)
   put_full n = answer_full b at vs c is n
+
+  -- where there is room it stored vs, whatever it is to answer where there is none
+  pub put_stored : {r : ℕ} → r ≡ unwrap_or p at → Room b at vs → Stored b at vs c r
+  unfolding wrote pick
+  put_stored e h =
+      let w : outcome p c ≡ outcome (Some (at + length vs)) (sets b at vs) = rw (le-leb _ _ h.fits) at is in
+      let n : p ≡ Some (at + length vs) = ap (λ (o : Outcome). o.next) w in
+      record { buffer = ap (λ (o : Outcome). o.buffer) w; next = e ∙ ap (λ (o : Option ℕ). unwrap_or o at) n }
 
 module _ (b : List ℕ) (at : ℕ) (vs c : List ℕ) where
   -- where there is room, to store vs is to write it
-  pub next_put : {r : ℕ} → Room b at vs → Stored b at vs c r → outcome (Put.Next r) c ≡ wrote b at vs
+  pub next_put : {r : ℕ} → Room b at vs → Stored b at vs c r → outcome (Some r) c ≡ wrote b at vs
   next_put h s = rw s.next (wrote_fits b at _ vs c refl refl (le-leb _ _ h.fits) s.buffer)
 
   -- where there is no room, to leave b as it was is to write it
-  pub full_put : length b < at + length vs → c ≡ b → outcome Put.Full c ≡ wrote b at vs
+  pub full_put : length b < at + length vs → c ≡ b → outcome None c ≡ wrote b at vs
   full_put h e = rw e (wrote_full b at _ vs refl refl (lt-leb _ _ h))
 
 -- vs, of m bytes, and a place within b
@@ -88,8 +96,18 @@ module _ (b : List ℕ) (at : ℕ) (vs : List ℕ) {m : ℕ} (size : length vs �
   rest_fits h k = record { fits = omega arith }
 
   -- and there is none, so that b is to stay as it was, where it has fewer
-  pub rest_short : length b - at < m → outcome Put.Full b ≡ wrote b at vs
+  pub rest_short : length b - at < m → outcome None b ≡ wrote b at vs
   rest_short h = full_put b at vs b (omega arith) refl
+
+-- vs, of m bytes, and whether they fit
+module _ (b : List ℕ) (at : ℕ) (vs : List ℕ) {m : ℕ} {f : Bool} (size : length vs ≡ m) (is : f ≡ leb (at + m) (length b)) where
+  -- there is room for vs where they do
+  pub room_fits : f ≡ true → Room b at vs
+  room_fits t = record { fits = omega (arith, leb-true (at + m) (length b) (sym is ∙ t)) }
+
+  -- and there is none, so that b is to stay as it was, where they do not
+  pub room_short : f ≡ false → outcome None b ≡ wrote b at vs
+  room_short t = full_put b at vs b (omega (arith, leb-false (at + m) (length b) (sym is ∙ t))) refl
 
 -- a store in front of a run of stores may come after it
 set_before : (vs b : List ℕ) (at j x : ℕ) → j < at → set (sets b at vs) j x ≡ sets (set b j x) at vs

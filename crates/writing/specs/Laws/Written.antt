@@ -1,12 +1,12 @@
 -- Laws of the packets that leave: how long their parts are at most, the bytes of a Nonce, and the length of an Interest.
 -- Assumes nothing.
-use Rattle.std.specs.Prelude.{ℕ, ◌+◌, ◌-◌, ◌/◌, ◌%◌, ◌≤◌, ◌≡◌, refl, Bool, List, [], ◌∷◌, length, eqb}
+use Rattle.std.specs.Prelude.{ℕ, ◌+◌, ◌-◌, ◌/◌, ◌%◌, ◌≤◌, ◌≡◌, refl, Bool, List, [], ◌∷◌, length, eqb, Option, Some, None}
 use Rattle.std.proofs.Common.{length-set}
 use native.Mathlib.Omega.{arith}
 use Rattle.laws.specs.Laws.Pick.{pick_ind}
 use Rattle.wire.specs.Write.{bytes_of, written}
 use Rattle.wire.specs.Laws.Write.{width_most, length_bytes_of}
-use Rattle.packets.specs.declared.bare.Hop.{Hop}
+use Rattle.packets.specs.declared.bare.HopLimit.{HopLimit}
 use Rattle.packets.specs.Places.View.{lowered}
 use Rattle.writing.specs.Written.{flag, request_value, request_bytes, reason_bytes, nack_value}
 use Rattle.writing.specs.Laws.Size.{length_written, request_parts, nack_parts}
@@ -62,7 +62,7 @@ nonce_bytes n =
     rw (a, b)
 
 -- an Interest keeps its length
-pub length_lowered : (l : List ℕ) (h : Hop) → length (lowered l h) ≡ length l
+pub length_lowered : (l : List ℕ) (h : Option HopLimit) → length (lowered l h) ≡ length l
 unfolding lowered
-length_lowered l Hop.Absent = refl
-length_lowered l (Hop.Limit h k) = length-set l k ((h - 1) % 256)
+length_lowered l None = refl
+length_lowered l (Some h) = length-set l h.at ((h.limit - 1) % 256)

@@ -1,14 +1,11 @@
--- The name by one call, the nonce by a step for each of its bytes.
-use Rattle.names.specs.Laws.Fingerprint.{fingerprint_steps}
+-- The nonce's bytes are the last four of the eight.
+use Rattle.std.proofs.Common.{◌∙◌, ap}
+use Rattle.wire.specs.Laws.Write.{bytes_high}
+use Rattle.names.specs.Fingerprint.{fnv, fingerprint}
 use Rattle.names.proofs.fingerprint.fingerprint_from.Goals as goal
 
 pub returns : goal.returns
+unfolding fingerprint
 returns c =
-    rw (
-      fingerprint_steps,
-      c.fnv_step.ensures,
-      c.fnv_step-h-3.ensures,
-      c.fnv_step-h-2.ensures,
-      c.fnv_step-h.ensures,
-      c.fnv_from-h.ensures,
-    )
+    rw (c.to_be_bytes-bytes.ensures, c.fnv_from.ensures) at c.fnv_from-2.ensures
+    ∙ ap (fnv (fnv c.args.start c.args.name.now)) (bytes_high 4 c.args.nonce)

@@ -1,96 +1,64 @@
 -- One law for each outcome of the one element, whose value ends with the packet; then its kind.
-use borrow.Author.Rules.{rules}
-use native.Mathlib.Omega.{arith}
-use borrow.Author.Tests.{lt-ltb, le-ltb, le-leb, lt-leb, eq-eqb, ne_eqb}
-use mathlib.Core.Path.{sym, ◌∙◌}
-use Rattle.packets.specs.Laws.Bare.{bare_bad, bare_longer, bare_kind, bare_ends}
-use Rattle.packets.specs.Bare.{kind_read, data_unless}
-use Rattle.packets.specs.Places.Bare.{packet_in}
-use Rattle.laws.specs.Pick.{pick}
-use native.Mathlib.Nat.{add-sub_cancel_left}
+use Rattle.std.proofs.Common.{sym, ◌∙◌, arith}
+use Rattle.std.proofs.Math.Nat.{add-sub_cancel_left}
+use Rattle.std.proofs.lemmas.Result.{err_from_is_err_and}
 use Rattle.wire.specs.Laws.Within.{read_is}
+use Rattle.packethead.specs.Laws.Part.{exit_is}
+use Rattle.packets.specs.Places.Bare.{packet_in}
+use Rattle.packets.specs.Laws.Bare.{bare_bad, bare_longer, bare_unknown, bare_interest, bare_data, bare_nacked, bare_other}
 use Rattle.packets.proofs.bare.read_bare.Goals as goal
+use Rattle.packets.proofs.bare.read_bare.Goals.{else-row-eq-DATA-via-then-row-eq-DATA+else-is_none, else-row-eq-DATA-via-else-row-eq-DATA}
 
-ruleset tests = (lt-ltb, le-ltb, le-leb, lt-leb, eq-eqb, ne_eqb)
+pub returns-in_err-e : goal.returns-in_err-e
+unfolding packet_in
+returns-in_err-e c =
+    let p = err_from_is_err_and c.from_residual.result c.from_residual.ensures.1 in
+    exit_is p.1 p.2 c.in_err-e.ensures.value c.in_err-e.ensures.ok_part
+    (rw (bare_bad c.args.nack c.args.marked _ (sym c.element.ensures ∙ c.in_err-e.ensures.ok_part)))
 
 pub returns-then-next-s : goal.returns-then-next-s
 unfolding packet_in
-returns-then-next-s c =
-    let i = sym c.element.ensures ∙ c.in-Is.is in
-    rw (bare_longer _ _ _ _ _ i c.if-next-s.true)
+returns-then-next-s c = rw (bare_longer c.args.nack c.args.marked _ _ _ (sym c.element.ensures ∙ c.in_ok-e.ensures.ok_part) c.if-next-s.true)
 
-pub overflow_add-to : goal.overflow_add-to
-overflow_add-to c =
-    let i = sym c.element.ensures ∙ c.in-Is.is in
-    omega (arith, read_is _ _ _ _ i)
+pub returns-in_err-row : goal.returns-in_err-row
+returns-in_err-row c =
+    let p = err_from_is_err_and c.from_residual-in_err-row.result c.from_residual-in_err-row.ensures.1 in
+    exit_is p.1 p.2 c.in_err-row.ensures.value c.in_err-row.ensures.ok_part
+    (bare_unknown _ _ _ _ _ (sym c.element.ensures ∙ c.in_ok-e.ensures.ok_part) c.if-next-s.false
+    (sym c.row_of.ensures ∙ c.in_err-row.ensures.ok_part))
 
-pub slice_bounds-read_interest-end : goal.slice_bounds-read_interest-end
-slice_bounds-read_interest-end c =
-    let i = sym c.element.ensures ∙ c.in-Is.is in
-    omega (arith, read_is _ _ _ _ i)
+pub overflow_add-value : goal.overflow_add-value
+overflow_add-value c =
+    let n = read_is _ _ _ _ (sym c.element.ensures ∙ c.in_ok-e.ensures.ok_part) in
+    omega (arith, n.value, n.inside)
 
-pub read_interest-requires : goal.read_interest-requires
-read_interest-requires c =
-    let i = sym c.element.ensures ∙ c.in-Is.is in
-    omega (arith, read_is _ _ _ _ i)
+pub slice_bounds-value-end : goal.slice_bounds-value-end
+slice_bounds-value-end c =
+    let n = read_is _ _ _ _ (sym c.element.ensures ∙ c.in_ok-e.ensures.ok_part) in
+    omega (arith, n.value, n.inside)
 
-pub returns-then-row : goal.returns-then-row
-unfolding kind_read packet_in pick
-returns-then-row c =
-    let i = sym c.element.ensures ∙ c.in-Is.is in
-    rw (
-      bare_kind _ _ _ _ _ i c.if-next-s.false,
-      ← c.row_of-row.ensures,
-      eq-eqb _ _ c.if-row.true,
-      ← bare_ends _ _ _ i c.if-next-s.false,
-    )
-    (rw add-sub_cancel_left at c.read_interest.ensures)
+pub returns-then-row-eq-INTEREST : goal.returns-then-row-eq-INTEREST
+returns-then-row-eq-INTEREST c =
+    c.read_interest.ensures
+    ∙ rw add-sub_cancel_left
+    (bare_interest _ _ _ _ _ (sym c.element.ensures ∙ c.in_ok-e.ensures.ok_part) c.if-next-s.false
+    (sym c.row_of.ensures ∙ c.in_ok-row.ensures.ok_part) c.if-row-eq-INTEREST.true)
 
-pub slice_bounds-read_data-end : goal.slice_bounds-read_data-end
-slice_bounds-read_data-end c =
-    let i = sym c.element.ensures ∙ c.in-Is.is in
-    omega (arith, read_is _ _ _ _ i)
+pub returns-then-is_none : goal.returns-then-is_none
+returns-then-is_none c =
+    c.read_data.ensures
+    ∙ rw add-sub_cancel_left
+    (bare_data _ _ _ _ _ (sym c.element.ensures ∙ c.in_ok-e.ensures.ok_part) c.if-next-s.false
+    (sym c.row_of.ensures ∙ c.in_ok-row.ensures.ok_part) c.if-row-eq-DATA.true
+    (rw c.if-is_none.true at c.is_none.ensures))
 
-pub read_data-requires : goal.read_data-requires
-read_data-requires c =
-    let i = sym c.element.ensures ∙ c.in-Is.is in
-    omega (arith, read_is _ _ _ _ i)
-
-pub returns-in-No : goal.returns-in-No
-unfolding kind_read packet_in pick data_unless
-returns-in-No c =
-    let i = sym c.element.ensures ∙ c.in-Is.is in
-    rw (
-      bare_kind _ _ _ _ _ i c.if-next-s.false,
-      ← c.row_of-row.ensures,
-      ne_eqb _ _ c.if-row.false,
-      eq-eqb _ _ c.if-row-2.true,
-      c.in-No.is,
-      ← bare_ends _ _ _ i c.if-next-s.false,
-    )
-    (rw add-sub_cancel_left at c.read_data.ensures)
-
-pub returns-in-Reason : goal.returns-in-Reason
-unfolding kind_read packet_in pick data_unless
-returns-in-Reason c =
-    let i = sym c.element.ensures ∙ c.in-Is.is in
-    rw (
-      bare_kind _ _ _ _ _ i c.if-next-s.false,
-      ← c.row_of-row.ensures,
-      c.in-Reason.is,
-    )
-    (search (rules, tests))
-
-pub returns-in-Bad : goal.returns-in-Bad
-unfolding packet_in
-returns-in-Bad c = rw (bare_bad _ _ _ (sym c.element.ensures ∙ c.in-Bad.is))
-
-pub returns-else-row-2 : goal.returns-else-row-2
-unfolding kind_read packet_in pick
-returns-else-row-2 c =
-    let i = sym c.element.ensures ∙ c.in-Is.is in
-    rw (
-      bare_kind _ _ _ _ _ i c.if-next-s.false,
-      ← c.row_of-row.ensures,
-    )
-    (search (rules, tests))
+pub returns : goal.returns
+returns c =
+    let i = sym c.element.ensures ∙ c.in_ok-e.ensures.ok_part in
+    let r = sym c.row_of.ensures ∙ c.in_ok-row.ensures.ok_part in
+    elim c.else-row-eq-DATA.branch [
+      | else-row-eq-DATA-via-then-row-eq-DATA+else-is_none w ↦
+          bare_nacked _ _ _ _ _ i c.if-next-s.false r c.if-row-eq-INTEREST.false (rw w.if-is_none.false at w.is_none.ensures)
+      | else-row-eq-DATA-via-else-row-eq-DATA w ↦
+          bare_other _ _ _ _ _ i c.if-next-s.false r c.if-row-eq-INTEREST.false w.if-row-eq-DATA.false
+    ]

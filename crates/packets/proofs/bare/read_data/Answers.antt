@@ -1,87 +1,47 @@
--- The tests of the places are those of the fields that the two walks found.
-use borrow.Author.Rules.{rules}
-use native.Mathlib.Omega.{arith}
-use borrow.Author.Tests.{lt-ltb, le-ltb, eq-eqb, ne_eqb}
-use mathlib.Core.Path.{sym, ◌∙◌}
-use Prim.Native.Nat.{ℕ}
-use mathlib.Core.List.{List}
-use Rattle.packets.specs.Places.Bare.{IsFound, packet_in}
-use Rattle.packets.specs.Laws.Bare.{found_said, found_missing, found_bytes, found_freshness, found_says}
-use Rattle.packets.specs.Bare.{data_value, data_read}
-use Rattle.laws.specs.Pick.{pick}
-use Rattle.grammar.specs.Types.{dat, meta_info}
-use Rattle.grammar.specs.Walk.{walked}
+-- One law for each outcome, over what the walks over v and over its MetaInfo found and what the Name says.
+use Rattle.std.proofs.Common.{sym, ◌∙◌, ap, Err, arith}
+use Rattle.std.proofs.lemmas.Result.{err_from_is_err_and}
+use Rattle.grammar.specs.Types.{dat}
+use Rattle.packethead.specs.Laws.Part.{exit_is, found_inside}
+use Rattle.packets.specs.Laws.Bare.{data_bad, data_no_info, data_no_value, data_unnamed, data_meta_bad, data_refused, data_brought}
 use Rattle.packets.proofs.bare.read_data.Goals as goal
-
-ruleset tests = (lt-ltb, le-ltb, eq-eqb, ne_eqb)
+use Rattle.packets.proofs.bare.read_data.Goals.{then-is_malformed-via-then-is_malformed, then-is_malformed-via-else-is_malformed+then-is_none, then-is_malformed-via-else-is_malformed+else-is_none+then-is_none-2}
 
 pub returns-then-is_malformed : goal.returns-then-is_malformed
-unfolding data_value data_read packet_in pick
 returns-then-is_malformed c =
-    let h : IsFound dat c.args.v.now c.args.base c.walk-f.result = record { found = c.walk-f.ensures; fits = c.requires } in
-    rw (found_said h, sym c.is_malformed.ensures ∙ c.if-is_malformed.true)
+    elim c.then-is_malformed.branch [
+      | then-is_malformed-via-then-is_malformed w ↦ data_bad _ _ _ c.walk-f.ensures (sym c.is_malformed.ensures ∙ w.if-is_malformed.true)
+      | then-is_malformed-via-else-is_malformed+then-is_none w ↦ data_no_info _ _ _ c.walk-f.ensures (rw w.if-is_none.true at w.is_none.ensures)
+      | then-is_malformed-via-else-is_malformed+else-is_none+then-is_none-2 w ↦
+          data_no_value _ _ _ c.walk-f.ensures (rw w.if-is_none-2.true at w.is_none-else-is_none.ensures)
+    ]
 
-pub returns-then-name-eq0 : goal.returns-then-name-eq0
-unfolding data_value data_read packet_in pick
-returns-then-name-eq0 c =
-    let h : IsFound dat c.args.v.now c.args.base c.walk-f.result = record { found = c.walk-f.ensures; fits = c.requires } in
-    rw (found_said h, sym c.is_malformed.ensures ∙ c.if-is_malformed.false, found_missing h 1) (search (rules, tests))
-
-pub returns-then-info-eq0 : goal.returns-then-info-eq0
-unfolding data_value data_read packet_in pick
-returns-then-info-eq0 c =
-    let h : IsFound dat c.args.v.now c.args.base c.walk-f.result = record { found = c.walk-f.ensures; fits = c.requires } in
-    rw (found_said h, sym c.is_malformed.ensures ∙ c.if-is_malformed.false, found_missing h 1, found_missing h 4) (search (rules, tests))
-
-pub returns-then-signature-eq0 : goal.returns-then-signature-eq0
-unfolding data_value data_read packet_in pick
-returns-then-signature-eq0 c =
-    let h : IsFound dat c.args.v.now c.args.base c.walk-f.result = record { found = c.walk-f.ensures; fits = c.requires } in
-    rw (found_said h, sym c.is_malformed.ensures ∙ c.if-is_malformed.false, found_missing h 1, found_missing h 4, found_missing h 5) (search (rules, tests))
+pub returns-in_err-name : goal.returns-in_err-name
+returns-in_err-name c =
+    let p = err_from_is_err_and c.from_residual.result c.from_residual.ensures.1 in
+    exit_is p.1 p.2 c.in_err-name.ensures.value c.in_err-name.ensures.ok_part
+    (data_unnamed _ _ _ c.walk-f.ensures c.in_err-name.ensures.ok_part)
 
 pub returns-then-is_malformed-2 : goal.returns-then-is_malformed-2
-unfolding data_value data_read packet_in pick
 returns-then-is_malformed-2 c =
-    let h : IsFound dat c.args.v.now c.args.base c.walk-f.result = record { found = c.walk-f.ensures; fits = c.requires } in
-    let held : List ℕ = c.part_at-held.result.now in
-    let g : IsFound meta_info held 0 c.walk-m.result = record { found = c.walk-m.ensures; fits = omega arith } in
-    rw (
-      found_said h,
-      sym c.is_malformed.ensures ∙ c.if-is_malformed.false,
-      found_missing h 1,
-      ne_eqb _ _ c.if-name-eq0.false,
-      found_missing h 4,
-      ne_eqb _ _ c.if-info-eq0.false,
-      found_missing h 5,
-      ne_eqb _ _ c.if-signature-eq0.false,
-      found_bytes h 2,
-      ← c.part_at-held.ensures,
-      found_said g,
-      sym c.is_malformed-2.ensures ∙ c.if-is_malformed-2.true,
-    )
+    data_meta_bad _ _ _ c.walk-f.ensures c.bytes_at-held.ensures c.walk-m.ensures (sym c.is_malformed-2.ensures ∙ c.if-is_malformed-2.true)
 
-pub named_data-requires : goal.named_data-requires
-named_data-requires c = record { found = c.walk-f.ensures; fits = c.requires }
+pub returns-in_err-check_name : goal.returns-in_err-check_name
+returns-in_err-check_name c =
+    let p = err_from_is_err_and c.from_residual-in_err-check_name.result c.from_residual-in_err-check_name.ensures.1 in
+    p.1 ∙ ap Err p.2
+    ∙ data_refused _ _ _ c.walk-f.ensures c.bytes_at-held.ensures c.walk-m.ensures (sym c.is_malformed.ensures ∙ c.if-is_malformed.false)
+    (rw c.if-is_none.false at c.is_none.ensures) (rw c.if-is_none-2.false at c.is_none-else-is_none.ensures)
+    (sym c.is_malformed-2.ensures ∙ c.if-is_malformed-2.false) c.in_ok-name.ensures.ok_part c.part_at.ensures c.count_components-c.ensures
+    (sym c.in_err-check_name.ensures)
+
+pub shifted-requires : goal.shifted-requires
+shifted-requires c = omega (arith, c.requires, found_inside dat c.args.v.now c.walk-f.ensures 1 c.in_ok-name.ensures.ok_part)
 
 pub returns : goal.returns
-unfolding data_value data_read packet_in pick
 returns c =
-    let h : IsFound dat c.args.v.now c.args.base c.walk-f.result = record { found = c.walk-f.ensures; fits = c.requires } in
-    let held : List ℕ = c.part_at-held.result.now in
-    let g : IsFound meta_info held 0 c.walk-m.result = record { found = c.walk-m.ensures; fits = omega arith } in
-    rw (
-      c.named_data.ensures (walked meta_info held) (c.freshness_of.ensures ∙ found_freshness g 2),
-      found_said h,
-      sym c.is_malformed.ensures ∙ c.if-is_malformed.false,
-      found_missing h 1,
-      ne_eqb _ _ c.if-name-eq0.false,
-      found_missing h 4,
-      ne_eqb _ _ c.if-info-eq0.false,
-      found_missing h 5,
-      ne_eqb _ _ c.if-signature-eq0.false,
-      found_bytes h 2,
-      ← c.part_at-held.ensures,
-      found_said g,
-      sym c.is_malformed-2.ensures ∙ c.if-is_malformed-2.false,
-      found_says h c.part_at.ensures c.count_components-c.ensures,
-    )
+    rw (c.shifted.ensures, c.freshness_of.ensures)
+    (data_brought _ _ _ c.walk-f.ensures c.bytes_at-held.ensures c.walk-m.ensures (sym c.is_malformed.ensures ∙ c.if-is_malformed.false)
+    (rw c.if-is_none.false at c.is_none.ensures) (rw c.if-is_none-2.false at c.is_none-else-is_none.ensures)
+    (sym c.is_malformed-2.ensures ∙ c.if-is_malformed-2.false) c.in_ok-name.ensures.ok_part c.part_at.ensures c.count_components-c.ensures
+    (sym c.in_ok-check_name.ensures) c.requires)

@@ -1,48 +1,51 @@
--- The tests of the places are those of the fields that the walk found.
-use borrow.Author.Rules.{rules}
-use borrow.Author.Tests.{lt-ltb, le-ltb, eq-eqb, ne_eqb}
-use mathlib.Core.Path.{sym, ◌∙◌}
-use Rattle.packets.specs.Places.Bare.{IsFound, packet_in}
-use Rattle.packets.specs.Laws.Bare.{found_said, found_missing, found_says}
-use Rattle.packets.specs.Bare.{interest_read}
-use Rattle.laws.specs.Pick.{pick}
-use Rattle.grammar.specs.Types.{interest}
+-- One law for each outcome, over what the walk over v found and what the Name says.
+use Rattle.std.proofs.Common.{◌≡◌, ◌||◌, sym, ◌∙◌, ap, Err}
+use Rattle.std.proofs.lemmas.Result.{err_from_is_err_and}
+use Rattle.wire.specs.Verdict.{is_unsupported}
+use Rattle.packethead.specs.Laws.Part.{exit_is}
+use Rattle.packets.specs.Laws.Bare.{interest_bad, interest_no_nonce, interest_unnamed, interest_empty, interest_refused, interest_asked}
 use Rattle.packets.proofs.bare.read_interest.Goals as goal
-
-ruleset tests = (lt-ltb, le-ltb, eq-eqb, ne_eqb)
+use Rattle.packets.proofs.bare.read_interest.Goals.{then-is_malformed-via-then-is_malformed, then-is_malformed-via-else-is_malformed+then-is_none, then-marked, else-marked}
 
 pub returns-then-is_malformed : goal.returns-then-is_malformed
-unfolding interest_read packet_in pick
 returns-then-is_malformed c =
-    let h : IsFound interest c.args.v.now c.args.base c.walk-f.result = record { found = c.walk-f.ensures; fits = c.requires } in
-    rw (found_said h, sym c.is_malformed.ensures ∙ c.if-is_malformed.true)
+    elim c.then-is_malformed.branch [
+      | then-is_malformed-via-then-is_malformed w ↦ interest_bad _ _ _ _ c.walk-f.ensures (sym c.is_malformed.ensures ∙ w.if-is_malformed.true)
+      | then-is_malformed-via-else-is_malformed+then-is_none w ↦ interest_no_nonce _ _ _ _ c.walk-f.ensures (rw w.if-is_none.true at w.is_none.ensures)
+    ]
 
-pub returns-then-name-eq0 : goal.returns-then-name-eq0
-unfolding interest_read packet_in pick
-returns-then-name-eq0 c =
-    let h : IsFound interest c.args.v.now c.args.base c.walk-f.result = record { found = c.walk-f.ensures; fits = c.requires } in
-    rw (found_said h, sym c.is_malformed.ensures ∙ c.if-is_malformed.false, found_missing h 1) (search (rules, tests))
+pub returns-in_err-name : goal.returns-in_err-name
+returns-in_err-name c =
+    let p = err_from_is_err_and c.from_residual.result c.from_residual.ensures.1 in
+    exit_is p.1 p.2 c.in_err-name.ensures.value c.in_err-name.ensures.ok_part
+    (interest_unnamed _ _ _ _ c.walk-f.ensures c.in_err-name.ensures.ok_part)
 
-pub returns-then-nonce-eq0 : goal.returns-then-nonce-eq0
-unfolding interest_read packet_in pick
-returns-then-nonce-eq0 c =
-    let h : IsFound interest c.args.v.now c.args.base c.walk-f.result = record { found = c.walk-f.ensures; fits = c.requires } in
-    rw (found_said h, sym c.is_malformed.ensures ∙ c.if-is_malformed.false, found_missing h 1, found_missing h 5) (search (rules, tests))
+pub returns-then-c-eq0 : goal.returns-then-c-eq0
+returns-then-c-eq0 c =
+    interest_empty _ _ _ _ c.walk-f.ensures (sym c.is_malformed.ensures ∙ c.if-is_malformed.false) (rw c.if-is_none.false at c.is_none.ensures)
+    c.in_ok-name.ensures.ok_part c.part_at.ensures c.count_components-c.ensures c.if-c-eq0.true
 
-pub named_interest-requires : goal.named_interest-requires
-named_interest-requires c = record { found = c.walk-f.ensures; fits = c.requires }
+pub returns-in_err-check_name : goal.returns-in_err-check_name
+returns-in_err-check_name c =
+    let p = err_from_is_err_and c.from_residual-in_err-check_name.result c.from_residual-in_err-check_name.ensures.1 in
+    let u : c.if-marked.check_name ≡ (c.args.marked || is_unsupported c.walk-f.result.said) =
+    elim c.if-marked.branch [
+      | then-marked w ↦ rw (w.check_name-is, w.if-marked.true)
+      | else-marked w ↦ rw (w.check_name-is, w.if-marked.false) w.is_unsupported.ensures
+    ] in
+    p.1 ∙ ap Err p.2
+    ∙ interest_refused _ _ _ _ c.walk-f.ensures (sym c.is_malformed.ensures ∙ c.if-is_malformed.false) (rw c.if-is_none.false at c.is_none.ensures)
+    c.in_ok-name.ensures.ok_part c.part_at.ensures c.count_components-c.ensures c.if-c-eq0.false
+    (rw (← u) (sym c.in_err-check_name.ensures))
 
 pub returns : goal.returns
-unfolding interest_read packet_in pick
 returns c =
-    let h : IsFound interest c.args.v.now c.args.base c.walk-f.result = record { found = c.walk-f.ensures; fits = c.requires } in
-    rw (
-      c.named_interest.ensures,
-      found_said h,
-      sym c.is_malformed.ensures ∙ c.if-is_malformed.false,
-      found_missing h 1,
-      ne_eqb _ _ c.if-name-eq0.false,
-      found_missing h 5,
-      ne_eqb _ _ c.if-nonce-eq0.false,
-      found_says h c.part_at.ensures c.count_components-c.ensures,
-    )
+    let u : c.if-marked.check_name ≡ (c.args.marked || is_unsupported c.walk-f.result.said) =
+    elim c.if-marked.branch [
+      | then-marked w ↦ rw (w.check_name-is, w.if-marked.true)
+      | else-marked w ↦ rw (w.check_name-is, w.if-marked.false) w.is_unsupported.ensures
+    ] in
+    rw (c.with_nack.ensures, c.made.ensures)
+    (interest_asked _ _ _ _ c.walk-f.ensures (sym c.is_malformed.ensures ∙ c.if-is_malformed.false) (rw c.if-is_none.false at c.is_none.ensures)
+    c.in_ok-name.ensures.ok_part c.part_at.ensures c.count_components-c.ensures c.if-c-eq0.false
+    (rw (← u) (sym c.in_ok-check_name.ensures)))

@@ -7,18 +7,18 @@ use Rattle.wire.proofs.read.width_of.Goals as goal
 
 ruleset tests = (lt-ltb, le-ltb, le-leb, lt-leb, eq-eqb, ne_eqb)
 
-pub returns-then-n-lt253 : goal.returns-then-n-lt253
+pub returns-in-0-to-252 : goal.returns-in-0-to-252
 unfolding width_of pick
-returns-then-n-lt253 c = search (rules, tests)
+returns-in-0-to-252 c = search (rules, tests)
 
-pub returns-then-n-lt65536 : goal.returns-then-n-lt65536
+pub returns-in-253-to-65535 : goal.returns-in-253-to-65535
 unfolding width_of pick
-returns-then-n-lt65536 c = search (rules, tests)
+returns-in-253-to-65535 c = search (rules, tests)
 
-pub returns-then-n-lt4294967296 : goal.returns-then-n-lt4294967296
+pub returns-in-65536-to-4294967295 : goal.returns-in-65536-to-4294967295
 unfolding width_of pick
-returns-then-n-lt4294967296 c = search (rules, tests)
+returns-in-65536-to-4294967295 c = search (rules, tests)
 
-pub returns : goal.returns
+pub returns-in_default : goal.returns-in_default
 unfolding width_of pick
-returns c = search (rules, tests)
+returns-in_default c = search (rules, tests)

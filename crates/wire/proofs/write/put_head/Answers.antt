@@ -1,25 +1,12 @@
 -- `put_head` meets its contract: where `fits` says that there is room for both widths, the two numbers are stored one after the other,
 -- and else nothing is stored.
-use mathlib.Core.Path.{sym, ◌∙◌}
+use mathlib.Core.Path.{◌∙◌}
 use native.Mathlib.Omega.{arith}
-use borrow.Author.Tests.{leb-true}
 use Rattle.wire.specs.Laws.Write.{width_most, length_head_of, head_stored, wrote_fits, wrote_full}
 use Rattle.wire.proofs.write.put_head.Goals as goal
 
 pub overflow_add-both : goal.overflow_add-both
 overflow_add-both c = omega (arith, width_most c.args.typ, width_most c.args.len)
-
-pub put_shortest-requires : goal.put_shortest-requires
-put_shortest-requires c = omega (arith, leb-true, sym c.fits.ensures ∙ c.if-fits.true)
-
-pub overflow_add-at : goal.overflow_add-at
-overflow_add-at c = omega (arith, leb-true, sym c.fits.ensures ∙ c.if-fits.true)
-
-pub put_shortest-requires-then-fits : goal.put_shortest-requires-then-fits
-put_shortest-requires-then-fits c = omega (arith, leb-true, sym c.fits.ensures ∙ c.if-fits.true)
-
-pub overflow_add-result : goal.overflow_add-result
-overflow_add-result c = omega (arith, leb-true, sym c.fits.ensures ∙ c.if-fits.true)
 
 pub returns-then-fits : goal.returns-then-fits
 returns-then-fits c =
@@ -28,5 +15,5 @@ returns-then-fits c =
     let stored = head_stored _ _ _ _ _ _ _ first c.put_shortest.ensures c.put_shortest-then-fits.ensures in
     wrote_fits _ _ _ _ _ (length_head_of _ _ ∙ omega arith) room c.if-fits.true stored
 
-pub returns : goal.returns
-returns c = wrote_full _ _ _ _ (length_head_of _ _ ∙ omega arith) c.fits.ensures c.if-fits.false
+pub returns-else-fits : goal.returns-else-fits
+returns-else-fits c = wrote_full _ _ _ _ (length_head_of _ _ ∙ omega arith) c.fits.ensures c.if-fits.false

@@ -1,24 +1,28 @@
--- One law for each outcome.
--- One law for each outcome.
-use borrow.Author.Rules.{rules}
-use mathlib.Core.Path.{sym}
+-- One law for each form and outcome.
+use Rattle.std.proofs.Common.{◌≡◌, ◌-◌, ◌<◌, ◌≤◌, ◌+◌, sym, ◌∙◌, length, take, drop, arith, ap}
+use Rattle.std.proofs.lemmas.Grind.{common_steps}
+use Rattle.wire.specs.Number.{big}
 use Rattle.wire.specs.Laws.Read.{two_none, two_some, four_none, four_some, eight_none, eight_some}
 use Rattle.wire.proofs.read.Cursor.long_number.Goals as goal
+use Rattle.wire.proofs.read.Cursor.long_number.Goals.{in-253, in-254, in_default}
 
-pub returns-then-left-lt2 : goal.returns-then-left-lt2
-returns-then-left-lt2 c = sym (two_none _ _ _ c.if-b-eq253.true c.if-left-lt2.true)
-
-pub returns-then-b-eq253 : goal.returns-then-b-eq253
-returns-then-b-eq253 c = sym (two_some _ _ _ _ c.if-b-eq253.true (search rules) c.two_at.ensures.0)
-
-pub returns-then-left-lt4 : goal.returns-then-left-lt4
-returns-then-left-lt4 c = sym (four_none _ _ _ c.if-b-eq253.false c.if-b-eq254.true c.if-left-lt4.true)
-
-pub returns-then-b-eq254 : goal.returns-then-b-eq254
-returns-then-b-eq254 c = sym (four_some _ _ _ _ c.if-b-eq253.false c.if-b-eq254.true (search rules) c.four_at.ensures.0)
-
-pub returns-then-left-lt8 : goal.returns-then-left-lt8
-returns-then-left-lt8 c = sym (eight_none _ _ _ c.if-b-eq253.false c.if-b-eq254.false c.if-left-lt8.true)
+pub returns-in_err-bytes : goal.returns-in_err-bytes
+returns-in_err-bytes c =
+    let short : length c.args.s.now - c.args.self.at < c.match-b.width = grind (arith, common_steps, c.in_err-bytes.ensures.lookup) in
+    c.from_residual.ensures ∙
+    elim c.match-b.branch [
+      | in-253 w ↦ sym (two_none _ _ _ (omega arith) (omega arith))
+      | in-254 w ↦ sym (four_none _ _ _ (omega arith) (omega arith) (omega arith))
+      | in_default w ↦ sym (eight_none _ _ _ (omega arith) (omega arith) (omega arith))
+    ]
 
 pub returns : goal.returns
-returns c = sym (eight_some _ _ _ _ c.if-b-eq253.false c.if-b-eq254.false (search rules) c.eight_at.ensures)
+returns c =
+    let room : c.args.self.at + c.match-b.width ≤ length c.args.s.now = grind (arith, common_steps, c.in_ok-bytes.ensures.lookup) in
+    let part : c.in_ok-bytes.bytes.now ≡ take c.match-b.width (drop c.args.self.at c.args.s.now) = grind (arith, common_steps, c.in_ok-bytes.ensures.lookup) in
+    let value = c.big_of.ensures ∙ ap (big 0) part in
+    elim c.match-b.branch [
+      | in-253 w ↦ rw w.width-is (sym (two_some _ _ _ _ (omega arith) (omega arith) (rw w.width-is at value)))
+      | in-254 w ↦ rw w.width-is (sym (four_some _ _ _ _ (omega arith) (omega arith) (omega arith) (rw w.width-is at value)))
+      | in_default w ↦ rw w.width-is (sym (eight_some _ _ _ _ (omega arith) (omega arith) (omega arith) (rw w.width-is at value)))
+    ]

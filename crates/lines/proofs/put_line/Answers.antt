@@ -1,0 +1,10 @@
+-- Where there is room for the line it is stored, and else nothing is.
+use mathlib.Core.Path.{sym}
+use Rattle.lines.specs.Laws.Put.{put_fits, put_full}
+use Rattle.lines.proofs.put_line.Goals as goal
+
+pub returns-then-fits : goal.returns-then-fits
+returns-then-fits c = put_fits _ _ _ _ _ _ (sym c.line_len.ensures.exact) c.fits.ensures c.if-fits.true c.store_line.ensures
+
+pub returns-else-fits : goal.returns-else-fits
+returns-else-fits c = put_full _ _ _ _ (sym c.line_len.ensures.exact) c.fits.ensures c.if-fits.false

@@ -1,8 +1,0 @@
--- The faces of the set.
-use mathlib.Core.Path.{◌∙◌}
-use Rattle.sizes.specs.Sizes.{most_faces}
-use Rattle.pending_entry.specs.Laws.Change.{view_sent_faces}
-use Rattle.pending_entry.proofs.sent_faces.Goals as goal
-
-pub returns : goal.returns
-returns c = λ nm. c.members.ensures ∙ view_sent_faces most_faces nm _ _

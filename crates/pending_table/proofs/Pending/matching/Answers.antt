@@ -1,0 +1,37 @@
+-- The loop's invariant: of the rows that are not left those stay that match.
+use Prim.Native.Nat.{ℕ}
+use mathlib.Core.Bool.{Bool}
+use mathlib.Core.Path.{◌∙◌}
+use mathlib.Core.List.{[]}
+use lib.ListN.{get_or}
+use Rattle.laws.specs.Laws.Digits.{lowest}
+use Rattle.sizes.specs.Sizes.{most_faces, most_entries}
+use Rattle.records.specs.Entry.{matches}
+use Rattle.pending_order.specs.Laws.Choose.{choosing_start, choosing_turn, choosing_end}
+use Rattle.pending_table.specs.Places.View.{state, row_at, marks_where}
+use Rattle.pending_table.proofs.Pending.matching.Goals as goal
+
+pub loop-row-init : goal.loop-row-init
+loop-row-init c =
+    rw (c.into_iter-row-iterator.ensures.into_iter_gives, c.of-row-items.ensures)
+    (choosing_start most_entries _ _ _ (lowest most_entries _))
+
+pub loop-row-preserved : goal.loop-row-preserved
+unfolding row_at
+loop-row-preserved c =
+    let p = c.args.self.now in
+    let l = c.loop-row in
+    let q : (ℕ → Bool) = (λ i. matches c.args.name.now (row_at most_faces p.names p.heads p.recs i)) in
+    let g = c.in-Some.ensures.steps in
+    let row = c.in-Some.row in
+    rw g.2
+    (choosing_turn most_entries q p.used l.row-iterator.left l.rows row _ _ (rw (← g.1) at l.invariant) g.0 (lowest most_entries _)
+    (c.kept-rows.ensures ∙ rw (c.is_match.ensures (get_or p.recs row []))))
+
+pub returns : goal.returns
+returns c =
+    let p = c.args.self.now in
+    let l = c.loop-row in
+    let q : (ℕ → Bool) = (λ i. matches c.args.name.now (row_at most_faces p.names p.heads p.recs i)) in
+    marks_where most_faces p.names p.heads p.recs p.numbers (state p) _ (matches c.args.name.now)
+    (choosing_end most_entries q p.used l.row-iterator.left l.rows _ l.invariant c.in-None.ensures.steps.0)

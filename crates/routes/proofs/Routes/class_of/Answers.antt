@@ -1,0 +1,16 @@
+-- The class word is that of the row; past the last route it is 0.
+use Rattle.std.proofs.Common.{rules, MatchOption, ◌≡◌}
+use Rattle.sizes.specs.Sizes.{most_faces}
+use Rattle.routes.proofs.Found.{answer_found}
+use mathlib.Core.Path.{sym}
+use Rattle.records.specs.Slots.{given}
+use Rattle.routes.specs.Operations.{class_word}
+use Rattle.routes.specs.Laws.Setting.{row_word}
+use Rattle.routes.proofs.Routes.class_of.Goals as goal
+
+pub returns : goal.returns
+unfolding given
+returns c =
+    let a = c.args in
+    let k : MatchOption c.row.result (c.map_or.result ≡ 0) (λ r. c.map_or.result ≡ r.now.class) = search rules in
+    answer_found (given 0 class_word) (λ r. r.class) c.row.result _ c.map_or.result (λ r. sym (row_word most_faces r)) c.row.ensures k

@@ -1,0 +1,11 @@
+-- No routes counted are none.
+use mathlib.Core.Path.{refl}
+use Rattle.sizes.specs.Sizes.{most_faces}
+use Rattle.routes.specs.Places.View.{view_empty, count_empty}
+use Rattle.routes.proofs.Routes.new.Goals as goal
+
+pub returns-clause-no_routes : goal.returns-clause-no_routes
+returns-clause-no_routes c = view_empty most_faces _ refl
+
+pub returns-clause-counted : goal.returns-clause-counted
+returns-clause-counted c = count_empty _ refl

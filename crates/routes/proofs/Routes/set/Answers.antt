@@ -1,0 +1,64 @@
+-- One law for each outcome: a known prefix, one that is too long, no room, a new route at the end.
+use native.Mathlib.Omega.{arith}
+use mathlib.Core.Path.{refl, sym, ◌∙◌}
+use Rattle.std.proofs.Common.{rules, length, ◌≡◌}
+use Rattle.sizes.specs.Sizes.{most_faces}
+use Rattle.records.specs.Class.{class_of}
+use Rattle.records.specs.Route.{with_class}
+use Rattle.routes.specs.Places.View.{route_at, place_is, view_length, view_cut, view_count, view_on, view_snoc}
+use Rattle.routes.specs.Laws.Setting.{set_known, set_new, set_long, set_full, row_class}
+use Rattle.routes.proofs.Routes.set.Goals as goal
+use Rattle.routes.proofs.Routes.set.Goals.{else-prefix-le-NAME-via-then-prefix-le-NAME+else-self-lt-ROUTES}
+use Rattle.routes.proofs.Routes.set.Goals.{else-prefix-le-NAME-via-else-prefix-le-NAME}
+
+pub returns-then-known-self-clause-sets : goal.returns-then-known-self-clause-sets
+unfolding route_at
+returns-then-known-self-clause-sets c =
+    let a = c.args in
+    let t = a.self.now in
+    let n = c.count-self in
+    let k = c.find-known in
+    let all : length t.rows ≡ 32 = search rules in
+    let len = view_length most_faces t in
+    let e = sym (place_is t k.result) ∙ k.ensures in
+    let cls = class_of a.class in
+    let changed = view_on most_faces t k.result.at _ (with_class cls) (omega arith) (row_class most_faces a.class _) in
+    set_known most_faces a.prefix.now cls _ _ _ refl (omega arith) (view_cut most_faces _ _ refl n.ensures ∙ rw (← e) changed)
+
+pub returns-then-known-self-clause-counted : goal.returns-then-known-self-clause-counted
+returns-then-known-self-clause-counted c = view_count most_faces _ (omega arith)
+
+pub returns-then-self-lt-ROUTES-clause-sets : goal.returns-then-self-lt-ROUTES-clause-sets
+returns-then-self-lt-ROUTES-clause-sets c =
+    let a = c.args in
+    let t = a.self.now in
+    let n = c.count-self in
+    let k = c.find-known in
+    let all : length t.rows ≡ 32 = search rules in
+    let len = view_length most_faces t in
+    let e = sym (place_is t k.result) ∙ k.ensures in
+    set_new most_faces a.prefix.now (class_of a.class) _ _ _ (omega arith) refl (omega arith) (omega arith)
+    (view_snoc most_faces t _ _ n.result (sym n.ensures) (omega arith) (omega arith) c.start.ensures)
+
+pub returns-then-self-lt-ROUTES-clause-counted : goal.returns-then-self-lt-ROUTES-clause-counted
+returns-then-self-lt-ROUTES-clause-counted c = view_count most_faces _ (omega arith)
+
+pub returns-else-prefix-le-NAME-clause-sets : goal.returns-else-prefix-le-NAME-clause-sets
+returns-else-prefix-le-NAME-clause-sets c =
+    let a = c.args in
+    let t = a.self.now in
+    let n = c.count-self in
+    let k = c.find-known in
+    let len = view_length most_faces t in
+    let e = sym (place_is t k.result) ∙ k.ensures in
+    let same = view_cut most_faces t (record { rows = t.rows; count = n.result }) refl n.ensures in
+    let cls = class_of a.class in
+    elim c.else-prefix-le-NAME.branch [
+      | else-prefix-le-NAME-via-then-prefix-le-NAME+else-self-lt-ROUTES w ↦
+          set_full most_faces a.prefix.now cls _ _ _ (omega arith) (omega arith) refl same
+      | else-prefix-le-NAME-via-else-prefix-le-NAME w ↦
+          set_long most_faces a.prefix.now cls _ _ _ (omega arith) (omega arith) refl same
+    ]
+
+pub returns-else-prefix-le-NAME-clause-counted : goal.returns-else-prefix-le-NAME-clause-counted
+returns-else-prefix-le-NAME-clause-counted c = view_count most_faces _ (omega arith)

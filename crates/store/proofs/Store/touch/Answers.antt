@@ -1,0 +1,22 @@
+-- The rows from a Data to the last turn by one place. Past the last nothing changes.
+use Rattle.std.proofs.Common.{rules, arith, ◌≡◌, length}
+use Rattle.store.specs.Places.View.{place_is, count_all}
+use Rattle.store.specs.Laws.Put.{last_stays}
+use Rattle.store.proofs.Turned.{turned}
+use Rattle.store.proofs.Store.touch.Goals as goal
+
+pub returns-then-taken-self-clause-touched : goal.returns-then-taken-self-clause-touched
+returns-then-taken-self-clause-touched c =
+    let a = c.args in
+    let n : length a.self.now.rows ≡ 8 = search rules in
+    rw place_is (turned a.self.now c.len-self.result a.taken.at c.rotate_left.new.self c.len-self.ensures (omega arith) n
+    c.rotate_left.ensures.len c.rotate_left.ensures.by_index)
+
+pub returns-then-taken-self-clause-counted : goal.returns-then-taken-self-clause-counted
+returns-then-taken-self-clause-counted c = count_all _ (omega arith)
+
+pub returns-else-taken-self-clause-touched : goal.returns-else-taken-self-clause-touched
+returns-else-taken-self-clause-touched c = last_stays c.args.self.now c.len-self.result c.args.taken c.len-self.ensures (omega arith)
+
+pub returns-else-taken-self-clause-counted : goal.returns-else-taken-self-clause-counted
+returns-else-taken-self-clause-counted c = count_all _ (omega arith)
