@@ -19,6 +19,7 @@ pub struct Row {
 }
 
 // The lines, where the oldest one stands, and how many there are. Nobody above reads its fields.
+#[derive(Drop)]
 pub struct Dead {
     lines: [Row; DEAD],
     at: usize,

@@ -25,6 +25,7 @@ use sizes::{LEAST_BUFFER, MOST_TIME};
 use store::Store;
 
 // A node's memory: the last accepted time, the faces, and the tables.
+#[derive(Drop)]
 pub struct Memory {
     pub time: u64,
     pub faces: Faces,

@@ -5,3 +5,5 @@ pub mod View
 pub mod Walk
 pub mod Where
 pub mod Gives
+pub mod Picked
+pub mod Found

@@ -119,11 +119,9 @@ fn ask_again(
     let class = m.pending.facts_of(h).class;
     let noted = note_opening(&m.pending, rows, made, h, face, class, i.nonce, expiry);
     pending_handle::renew(&mut m.pending, h, face, i.nonce, expiry);
-    let to = next_hop(m, h, face, name, i.hop);
-    // No face has the number 0: there is no hop.
-    if to == 0 {
+    let Some(to) = next_hop(m, h, face, name, i.hop) else {
         return quiet(Answer::Done, noted);
-    }
+    };
     pending_handle::send(&mut m.pending, h, to, i.nonce, m.time);
     Came {
         answer: Answer::Done,
@@ -148,11 +146,9 @@ fn ask_anew(
     ensures { After (λ n. asks_entry n.time n (arrival_found face bare.now i) none) made result (lent m)
         (output (lent sends) (lent out) (lent rows)) }
 {
-    let hit = m.store.look(name, i.can_be_prefix, i.must_be_fresh, m.time);
-    if m.store.is_there(hit) {
-        serve(m, sends, out, made, face, hit)
-    } else {
-        route(m, sends, out, rows, made, face, name, bare, i)
+    match m.store.look(name, i.can_be_prefix, i.must_be_fresh, m.time) {
+        Some(hit) => serve(m, sends, out, made, face, hit),
+        None => route(m, sends, out, rows, made, face, name, bare, i),
     }
 }
 

@@ -33,7 +33,7 @@ use pending_table::{Handle, Pending};
 use sending::{Sends, Sent, put_nack};
 use writing::Request;
 
-// The nonce of a face's request in an entry, 0 where there is none.
+// The nonce of a face's request in an entry; 0 where there is none, as `nonce_at` says.
 fn nonce_of(p: &Pending, h: Handle, face: usize) -> u64
     ensures { result ≡ nonce_at (entry_at p.now h) face }
 {

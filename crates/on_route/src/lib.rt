@@ -66,10 +66,7 @@ fn dropping(known: &mut Routes, prefix: &[u8]) -> Result<(), Answer>
     ensures { RoutesBy (rules.drop_route prefix.now) (view known.old) (answer_of result) (view known.new) }
 {
     check(prefix)?;
-    let route = known.find(prefix);
-    if !known.is_there(route) {
-        return Err(Answer::NoRoute);
-    }
+    let route = known.find(prefix).ok_or(Answer::NoRoute)?;
     known.remove(route);
     Ok(())
 }
@@ -138,10 +135,7 @@ fn adding_hop(known: &mut Routes, face: usize, cost: u64, prefix: &[u8]) -> Resu
     if MOST_COST < cost {
         return Err(Answer::BadSetting);
     }
-    let route = known.find(prefix);
-    if !known.is_there(route) {
-        return Err(Answer::NoRoute);
-    }
+    let route = known.find(prefix).ok_or(Answer::NoRoute)?;
     known.add_hop(route, face, cost);
     Ok(())
 }
@@ -170,7 +164,7 @@ fn dropping_hop(known: &mut Routes, face: usize, prefix: &[u8]) -> Result<(), An
     ensures { RoutesBy (rules.drop_hop face prefix.now) (view known.old) (answer_of result) (view known.new) }
 {
     check(prefix)?;
-    let route = known.find(prefix);
+    let route = known.find(prefix).ok_or(Answer::NoRoute)?;
     if !known.has_hop(route, face) {
         return Err(Answer::NoRoute);
     }

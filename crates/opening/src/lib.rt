@@ -1,10 +1,11 @@
 // An Interest without an entry and without a hit: the longest route and its cheapest eligible hop, the room, and the entry that opens.
 #![tactic(auto)]
 
-ghost use Rattle.std.specs.Prelude.{◌<◌, ◌≡◌, length};
-ghost use Rattle.sizes.specs.Sizes.{most_entries};
+ghost use Rattle.std.specs.Prelude.{◌<◌, ◌≡◌, Bool, ℕ, length};
+ghost use Rattle.sizes.specs.Sizes.{most_entries, most_faces};
 ghost use Rattle.records.specs.Class.{class_of};
 ghost use Rattle.records.specs.Route.{longest};
+ghost use Rattle.faces.specs.Set.{faces_where};
 ghost use Rattle.faces.specs.Places.View.{view};
 ghost use Rattle.routes.specs.Places.View as routes;
 ghost use Rattle.pending_table.specs.Places.View as pending;
@@ -17,12 +18,14 @@ ghost use Rattle.event.specs.Memory.{output};
 ghost use Rattle.coming.specs.Goes.{After, guarded};
 ghost use Rattle.coming.specs.Places.Found.{arrival_named};
 ghost use Rattle.opening.specs.Places.Sized.{Sized};
+ghost use Rattle.opening.specs.Places.Way.{Way};
 
 use answers::Answer;
 use coming::guard;
 use event::{Came, Memory, quiet};
 use happenings::{Fate, Rows, note};
 use packets::Interest;
+use routes::Routes;
 use sending::{Sends, refuse, send_interest};
 use ways::{eligible, expiry_of};
 use writing::Request;
@@ -95,6 +98,15 @@ fn open(
     }
 }
 
+// The class word of the longest matching route, and the cheapest next hop of it that is in a set of faces, if there is one.
+fn way(known: &Routes, name: &[u8], may: u64) -> Option<(u64, usize)>
+    ensures { (q : ℕ → Bool) → may ≡ faces_where most_faces q → Way q (longest name.now (routes.view known.now)) result }
+{
+    let best = known.longest(name)?;
+    let to = known.cheapest(best, may)?;
+    Some((known.class_of(best), to))
+}
+
 // "Otherwise take the longest matching route. NO_ROUTE exactly when there is none or no next hop of it is eligible. Then NO_ROOM."
 pub fn route(
     m: &mut Memory,
@@ -114,15 +126,12 @@ pub fn route(
     if let Err(answer) = guard(m.time, out.len(), bare.len(), name.len()) {
         return quiet(answer, made);
     }
-    let best = m.routes.longest(name);
     let local = m.faces.is_local(face);
     let may = eligible(m.faces, face, i.hop, name, local);
-    let to = m.routes.cheapest(best, may);
-    if to == 0 {
+    let Some((class, to)) = way(&m.routes, name, may) else {
         let answer = Answer::NoRoute;
         return refused(m, sends, out, made, face, answer, NO_ROUTE, name, i);
-    }
-    let class = m.routes.class_of(best);
+    };
     if m.pending.has_room(class) {
         open(m, sends, out, rows, made, face, name, bare, i, class, to)
     } else {

@@ -8,9 +8,10 @@ use mathlib.Core.Option.{Option, none}
 use contract.Lifetimes.{Lfts}
 use denote.Triple.Clauses.{AtExit}
 use borrow.Fn.Kinds.{Dens, ended_of, res_t}
+use Rattle.faces.specs.Laws.Found.{face_one}
 use Rattle.sizes.specs.Sizes.{most_faces}
 use Rattle.faces.specs.Set.{has_face}
-use Rattle.records.specs.Slots.{slot, given}
+use Rattle.records.specs.Slots.{slot}
 use Rattle.records.specs.Entry.{Request, Entry, asking, ending, sending, not_sent, with_nack, aged_entry, has_nonce, own_nonce, sent_nonce}
 use Rattle.records.specs.Entry.{is_suppressed, earliest_of}
 use Rattle.pending_entry.specs.Operations.{unsent_of}
@@ -221,13 +222,13 @@ pub is_suppressed_same : (κs : Lfts 1) (a b : Dens κs is-suppressed-kinds.ps) 
 is_suppressed_same κs a b x y s t e h e1 p q =
     p ∙ said_alike false (ap is_suppressed e1) h e ∙ sym q
 
--- Of the faces of a set that "with the earliest one, ties to the lower face", 0 where there is none
+-- Of the faces of a set that "with the earliest one, ties to the lower face", if there is one
 pub earliest_same : (κs : Lfts 1) (a b : Dens κs earliest-kinds.ps) (x y : (res_t earliest-kinds.r κs).Denot)
     (s t : AtExit (ended_of 1 earliest-kinds.ps earliest-kinds.r) κs)
     → (view a.0.now ≡ view b.0.now) → (place_of a.0.now a.1.0 ≡ place_of b.0.now b.1.0) → (a.1.1.0 ≡ b.1.1.0)
     → earliest-reads.Post κs a x s → earliest-reads.Post κs b y t → x ≡ y
 earliest_same κs a b x y s t e h e1 p q =
-    p ∙ said_alike 0 (ap {B = Entry → ℕ} (λ k e. given 0 (λ f. f) (earliest_of (has_face most_faces k) e)) e1) h e ∙ sym q
+    face_one x y (p ∙ said_alike none (ap {B = Entry → Option ℕ} (λ k. earliest_of (has_face most_faces k)) e1) h e ∙ sym q)
 
 -- Whether all out-records are Nacked, and then "the smallest nonzero reason, or 0"
 pub all_nacked_same : (κs : Lfts 1) (a b : Dens κs all-nacked-kinds.ps) (x y : (res_t all-nacked-kinds.r κs).Denot)

@@ -5,6 +5,7 @@ use mathlib.Core.Path.{◌≡◌, sym, ◌∙◌}
 use contract.Lifetimes.{Lfts}
 use denote.Triple.Clauses.{AtExit}
 use borrow.Fn.Kinds.{Dens, ended_of, res_t}
+use Rattle.faces.specs.Laws.Found.{face_one}
 use Rattle.dead.specs.Places.View as dead
 use Rattle.happenings.specs.Noted.{most_rows}
 use Rattle.happenings.specs.Laws.Noted.{notes_one}
@@ -163,11 +164,11 @@ pub is_suppressed_one : (κs : Lfts 1) (a : Dens κs is-suppressed-kinds.ps) (x 
     → is-suppressed-reads.Post κs a x s → is-suppressed-reads.Post κs a y t → x ≡ y
 is_suppressed_one κs a x y s t p q = p ∙ sym q
 
--- two outcomes are the same: Of the faces of a set that "with the earliest one, ties to the lower face", 0 where there is none
+-- two outcomes are the same: Of the faces of a set that "with the earliest one, ties to the lower face", if there is one
 pub earliest_one : (κs : Lfts 1) (a : Dens κs earliest-kinds.ps) (x y : (res_t earliest-kinds.r κs).Denot)
     (s t : AtExit (ended_of 1 earliest-kinds.ps earliest-kinds.r) κs)
     → earliest-reads.Post κs a x s → earliest-reads.Post κs a y t → x ≡ y
-earliest_one κs a x y s t p q = p ∙ sym q
+earliest_one κs a x y s t p q = face_one x y (p ∙ sym q)
 
 -- two outcomes are the same: Whether all out-records are Nacked, and then "the smallest nonzero reason, or 0"
 pub all_nacked_one : (κs : Lfts 1) (a : Dens κs all-nacked-kinds.ps) (x y : (res_t all-nacked-kinds.r κs).Denot)

@@ -8,6 +8,7 @@ ghost use Rattle.laws.specs.Lists.{on_at};
 ghost use Rattle.names.specs.Fingerprint.{fingerprint};
 ghost use Rattle.sizes.specs.Sizes.{most_faces};
 ghost use Rattle.faces.specs.Set.{has_face};
+ghost use Rattle.faces.specs.Found.{face_in};
 ghost use Rattle.records.specs.Slots.{slot, given};
 ghost use Rattle.records.specs.Entry.{asking, ending, sending, not_sent, with_nack, is_idle, aged_entry, has_nonce, own_nonce, sent_nonce};
 ghost use Rattle.records.specs.Entry.{is_suppressed, earliest_of};
@@ -196,13 +197,13 @@ pub fn is_suppressed(p: &Pending, h: Handle, time: u64) -> bool
     }
 }
 
-// Of the faces of a set that "with the earliest one, ties to the lower face", 0 where there is none: the clause says 0 for no entry.
-pub fn earliest(p: &Pending, h: Handle, set: u64) -> usize
-    ensures { result ≡ given 0 (λ e. given 0 (λ f. f) (earliest_of (has_face most_faces set) e)) (entry_at p.now h) }
+// Of the faces of a set that "with the earliest one, ties to the lower face", if there is one.
+pub fn earliest(p: &Pending, h: Handle, set: u64) -> Option<usize>
+    ensures { face_in result ≡ given none (earliest_of (has_face most_faces set)) (entry_at p.now h) }
 {
     match p.row_of(h) {
         Some(row) => pending_records::earliest(&p.heads[row], &p.recs[row], set),
-        None => 0,
+        None => None,
     }
 }
 

@@ -7,6 +7,7 @@ use mathlib.Core.List.{List, []}
 use contract.Lifetimes.{Lfts}
 use denote.Triple.Clauses.{AtExit}
 use borrow.Fn.Kinds.{Dens, ended_of, res_t}
+use Rattle.faces.specs.Laws.Found.{face_one}
 use Rattle.dead.specs.Places.View as dead
 use Rattle.happenings.specs.Noted.{most_rows}
 use Rattle.happenings.specs.Laws.Noted.{notes_one}
@@ -64,7 +65,7 @@ is_suppressed_one κs a x y s t p q = p [] ∙ sym (q [])
 pub earliest_one : (κs : Lfts 2) (a : Dens κs earliest-kinds.ps) (x y : (res_t earliest-kinds.r κs).Denot)
     (s t : AtExit (ended_of 2 earliest-kinds.ps earliest-kinds.r) κs)
     → earliest-reads.Post κs a x s → earliest-reads.Post κs a y t → x ≡ y
-earliest_one κs a x y s t p q = p [] ∙ sym (q [])
+earliest_one κs a x y s t p q = face_one x y (p [] ∙ sym (q []))
 
 -- whether all out-records are Nacked, and the reason
 pub all_nacked_one : (κs : Lfts 2) (a : Dens κs all-nacked-kinds.ps) (x y : (res_t all-nacked-kinds.r κs).Denot)

@@ -9,6 +9,7 @@ ghost use Rattle.names.specs.Fingerprint.{fingerprint};
 ghost use Rattle.sizes.specs.Sizes.{most_faces};
 ghost use Rattle.faces.specs.Set.{has_face, with_face, faces_where};
 ghost use Rattle.faces.specs.Slots.{slots_of};
+ghost use Rattle.faces.specs.Found.{face_in};
 ghost use Rattle.records.specs.Slots.{given, held};
 ghost use Rattle.records.specs.Entry.{aged_entry, has_nonce, is_suppressed, newest_of, earliest_of, lesser_reason};
 ghost use Rattle.records.specs.Ageing.{buried_by};
@@ -17,7 +18,7 @@ ghost use Rattle.pending_entry.specs.Places.View.{before, after};
 ghost use Rattle.pending_records.specs.Operations.{overdue_faces, nacks_in, nacks_of, noted, noted_split, noted_one, Joins};
 ghost use Rattle.records.specs.Closing.{own_line_by};
 ghost use Rattle.rows.specs.Lent.{lent, shown};
-ghost use Rattle.pending_records.specs.Places.Walk.{is_over, column_at, newest_in, sent_in, earlier_face};
+ghost use Rattle.pending_records.specs.Places.Walk.{is_over, column_at, newest_in, sent_in};
 
 use dead::Dead;
 use faces::{Walk, add, common, has, less};
@@ -107,32 +108,11 @@ pub fn is_suppressed(head: &Head, recs: &Records, time: u64) -> bool
     newest_time(head[SENT], recs).is_some_and(|sent| time.saturating_sub(sent) < RESEND)
 }
 
-// The face with the earlier out-record: the best so far, or another face. 0 is no face's number, so that it stands for none here as in what
-// `earliest` answers.
-#[tactic(auto, unfolding(crate::specs::Places::Walk::earlier_face, pending_entry::specs::Places::View::sent_at, laws::specs::Pick::pick))]
-fn earlier(recs: &Records, best: usize, f: usize) -> usize
-    requires best_within { best ≤ most_faces }
-    requires is_face { 1 ≤ f }
-    requires face_within { f ≤ most_faces }
-    ensures earlier { result ≡ earlier_face recs.now best f }
-    ensures within { result ≤ most_faces }
+// The face of a set with the earliest out-record, "ties to the lower face", if one has one.
+pub fn earliest(head: &Head, recs: &Records, set: u64) -> Option<usize>
+    ensures { (nm : List ℕ) → face_in result ≡ earliest_of (has_face most_faces set) (before nm (shown head) (shown recs)) }
 {
-    if best == 0 || recs[f - 1][SENT_TIME] < recs[best - 1][SENT_TIME] {
-        f
-    } else {
-        best
-    }
-}
-
-// The face of a set with the earliest out-record, "ties to the lower face"; 0 where none has one.
-pub fn earliest(head: &Head, recs: &Records, set: u64) -> usize
-    ensures { (nm : List ℕ) → result ≡ given 0 (λ f. f) (earliest_of (has_face most_faces set) (before nm (shown head) (shown recs))) }
-{
-    let mut best = 0;
-    for f in Walk::of(common(head[SENT], set)) {
-        best = earlier(recs, best, f);
-    }
-    best
+    Walk::of(common(head[SENT], set)).min_by_key(|f| recs[*f - 1][SENT_TIME])
 }
 
 // The smaller of two reasons that is not 0, or 0.

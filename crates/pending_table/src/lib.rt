@@ -44,6 +44,7 @@ const MONITORING_RESERVE: u64 = 16;
 const BULK_RESERVE: u64 = 8;
 
 // The table: for each row a name, a head, records and the number of its opening; and the rows that are used, a bit each.
+#[derive(Drop)]
 pub struct Pending {
     pub names: Names,
     pub heads: Heads,

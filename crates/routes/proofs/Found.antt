@@ -2,7 +2,7 @@
 -- Assumes nothing.
 use native.Mathlib.Omega.{arith}
 use denote.Ref.{Bor}
-use borrow.Author.Tests.{ltb-false}
+use borrow.Author.Tests.{ltb-true, ltb-false}
 use mathlib.Core.Path.{refl, ◌∙◌}
 use mathlib.Core.Option.{Option, none, some}
 use Rattle.std.proofs.Common.{ℕ, suc, ◌+◌, min, ◌≡◌, ◌≤◌, ◌<◌, Bool, true, false, not, cond, ltb}
@@ -11,7 +11,6 @@ use Rattle.std.proofs.lemmas.List.{get_or-take, length-take}
 use Rattle.std.proofs.lemmas.List.Sums.{prefix_len-le-length}
 use Rattle.std.specs.declared.option.Option as code
 use Rattle.std.specs.List.{position_or_len}
-use Rattle.std.specs.Option.{unwrap_or}
 use Rattle.std.specs.Slice.{IsItemAt}
 use Rattle.laws.specs.Pick.{pick}
 use Rattle.laws.specs.Lists.{index_of}
@@ -20,7 +19,7 @@ use Rattle.records.specs.Route.{Route}
 use Rattle.routes.specs.declared.Row.{Row}
 use Rattle.routes.specs.declared.Routes.{Routes}
 use Rattle.routes.specs.declared.Handle.{Handle}
-use Rattle.routes.specs.Places.View.{route_row, route_at, no_row, place_is, found, view_place, view_none}
+use Rattle.routes.specs.Places.View.{view, placed, route_row, route_at, no_row, place_is, found, view_place, view_none, view_rows, view_length}
 
 -- the route of a row that the table lends at a handle's place, and none where it lends none
 pub row_found : (t : Routes) (h : Handle) (o : code.Option (Bor Row))
@@ -55,12 +54,38 @@ place_found p (r ∷ rows) = go (p (route_row most_faces r)) _ _ (place_found p 
     go true i j e = refl
     go false i j e = omega arith
 
--- the place that a search by a test finds, the length where there is none
-pub place_or : {A : Type 0} (p : A → Bool) (rows : List A) (m : ℕ) → length rows ≡ m
-    → unwrap_or (cond (ltb (position_or_len p rows) (length rows)) (Some (position_or_len p rows)) None) m ≡ position_or_len p rows
-place_or p rows m h = go (ltb (position_or_len p rows) (length rows)) refl
+-- the place that a search by a test finds, if it finds one
+place_sought : {A : Type 0} (p : A → Bool) (rows : List A) (o : code.Option ℕ)
+    → o ≡ cond (ltb (position_or_len p rows) (length rows)) (Some (position_or_len p rows)) None
+    → MatchOption o (position_or_len p rows ≡ length rows) (λ i. (i ≡ position_or_len p rows) × (i < length rows))
+place_sought p rows o e = go (ltb (position_or_len p rows) (length rows)) refl e
   where
-    go : (b : Bool) → ltb (position_or_len p rows) (length rows) ≡ b
-        → unwrap_or (cond b (Some (position_or_len p rows)) None) m ≡ position_or_len p rows
-    go true e = refl
-    go false e = omega (arith, ltb-false (position_or_len p rows) (length rows) e, prefix_len-le-length (λ a. not (p a)) rows)
+    go : (b : Bool) → ltb (position_or_len p rows) (length rows) ≡ b → o ≡ cond b (Some (position_or_len p rows)) None
+        → MatchOption o (position_or_len p rows ≡ length rows) (λ i. (i ≡ position_or_len p rows) × (i < length rows))
+    go true t e = rw e (refl, ltb-true _ _ t)
+    go false t e =
+        rw e (omega (arith, ltb-false (position_or_len p rows) (length rows) t, prefix_len-le-length (λ a. not (p a)) rows))
+
+-- the handle of that place stands for the first route that the test holds of
+pub handle_found : (t : Routes) (p : Route → Bool) (m : ℕ) (o : code.Option ℕ) (h : code.Option Handle)
+    → m ≡ min t.count most_routes → most_routes ≤ length t.rows
+    → o ≡ cond (ltb (position_or_len (λ r. p (route_row most_faces r)) (take m t.rows)) (length (take m t.rows)))
+    (Some (position_or_len (λ r. p (route_row most_faces r)) (take m t.rows))) None
+    → MatchOption o (h ≡ None) (λ i. h ≡ Some (record { at = i }))
+    → MatchOption h (index_of p (view t) ≡ length (view t)) (λ k. (placed t k ≡ index_of p (view t)) × (placed t k < length (view t)))
+handle_found t p m o h c l e k = go o (place_sought _ (take m t.rows) o e) k
+  where
+    same : index_of p (view t) ≡ position_or_len (λ r. p (route_row most_faces r)) (take m t.rows)
+    same = rw (view_rows most_faces t (omega arith), ← c) (place_found p (take m t.rows))
+
+    many : length (view t) ≡ length (take m t.rows)
+    many = omega (arith, view_length most_faces t, length-take m t.rows)
+
+    go : (o : code.Option ℕ)
+        → MatchOption o
+        (position_or_len (λ r. p (route_row most_faces r)) (take m t.rows) ≡ length (take m t.rows))
+        (λ i. (i ≡ position_or_len (λ r. p (route_row most_faces r)) (take m t.rows)) × (i < length (take m t.rows)))
+        → MatchOption o (h ≡ None) (λ i. h ≡ Some (record { at = i }))
+        → MatchOption h (index_of p (view t) ≡ length (view t)) (λ k. (placed t k ≡ index_of p (view t)) × (placed t k < length (view t)))
+    go None s k = rw (k, same, many) s
+    go (Some i) s k = rw (k, same, many, place_is t (record { at = i })) s

@@ -6,7 +6,8 @@ use lib.ListN.{length}
 use contract.Lifetimes.{Lfts}
 use denote.Triple.Clauses.{AtExit}
 use borrow.Fn.Kinds.{Dens, ended_of, res_t}
-use Rattle.routes.specs.Places.View.{view, place, count_of}
+use Rattle.routes.specs.Places.View.{view, place, place_in, place_found, count_of}
+use Rattle.faces.specs.Laws.Found.{face_one}
 use Rattle.routes.proofs.Routes.clear.Kinds as clear-kinds
 use Rattle.routes.proofs.Routes.clear.Reads as clear-reads
 use Rattle.routes.proofs.Routes.find.Kinds as find-kinds
@@ -47,8 +48,8 @@ pub find_same : (κs : Lfts 2) (a b : Dens κs find-kinds.ps) (x y : (res_t find
     → view a.0.now ≡ view b.0.now
     → a.1.0.now ≡ b.1.0.now
     → find-reads.Post κs a x s → find-reads.Post κs b y t
-    → place a.0.now x ≡ place b.0.now y
-find_same κs a b x y s t v e p q = rw (v, e) at p ∙ sym q
+    → place_in a.0.now x ≡ place_in b.0.now y
+find_same κs a b x y s t v e p q = rw (v, e) at (place_found a.0.now _ x p) ∙ sym (place_found b.0.now _ y q)
 
 -- whether a handle stands for a route
 pub is_there_same : (κs : Lfts 1) (a b : Dens κs is-there-kinds.ps) (x y : (res_t is-there-kinds.r κs).Denot)
@@ -129,8 +130,8 @@ pub longest_same : (κs : Lfts 2) (a b : Dens κs longest-kinds.ps) (x y : (res_
     → view a.0.now ≡ view b.0.now
     → a.1.0.now ≡ b.1.0.now
     → longest-reads.Post κs a x s → longest-reads.Post κs b y t
-    → place a.0.now x ≡ place b.0.now y
-longest_same κs a b x y s t v e p q = rw (v, e) at p ∙ sym q
+    → place_in a.0.now x ≡ place_in b.0.now y
+longest_same κs a b x y s t v e p q = rw (v, e) at (place_found a.0.now _ x p) ∙ sym (place_found b.0.now _ y q)
 
 -- the class word of a route
 pub class_of_same : (κs : Lfts 1) (a b : Dens κs class-of-kinds.ps) (x y : (res_t class-of-kinds.r κs).Denot)
@@ -158,4 +159,4 @@ pub cheapest_same : (κs : Lfts 1) (a b : Dens κs cheapest-kinds.ps) (x y : (re
     → a.1.1.0 ≡ b.1.1.0
     → cheapest-reads.Post κs a x s → cheapest-reads.Post κs b y t
     → x ≡ y
-cheapest_same κs a b x y s t v h e0 p q = rw (v, h, e0) at p ∙ sym q
+cheapest_same κs a b x y s t v h e0 p q = face_one x y (rw (v, h, e0) at p ∙ sym q)

@@ -5,7 +5,7 @@ use mathlib.Core.Path.{◌≡◌, refl, sym, ◌∙◌}
 use contract.Lifetimes.{Lfts}
 use denote.Triple.Clauses.{AtExit}
 use borrow.Fn.Kinds.{Dens, ended_of, res_t}
-use Rattle.routes.specs.Places.View.{view, count_of, place_one}
+use Rattle.routes.specs.Places.View.{view, count_of, found_one}
 use Rattle.routes.proofs.Routes.new.Kinds as new-kinds
 use Rattle.routes.proofs.Routes.new.Reads as new_reads
 use Rattle.routes.proofs.Routes.clear.Kinds as clear-kinds
@@ -53,7 +53,7 @@ clear_one κs a x y s t p q = same.clear_same κs a a x y s t p q
 pub find_one : (κs : Lfts 2) (a : Dens κs find-kinds.ps) (x y : (res_t find-kinds.r κs).Denot)
     (s t : AtExit (ended_of 2 find-kinds.ps find-kinds.r) κs)
     → find-reads.Post κs a x s → find-reads.Post κs a y t → x ≡ y
-find_one κs a x y s t p q = place_one _ x y (same.find_same κs a a x y s t refl refl p q)
+find_one κs a x y s t p q = found_one _ x y (same.find_same κs a a x y s t refl refl p q)
 
 -- two answers whether a handle stands for a route are the same
 pub is_there_one : (κs : Lfts 1) (a : Dens κs is-there-kinds.ps) (x y : (res_t is-there-kinds.r κs).Denot)
@@ -101,7 +101,7 @@ drop_face_one κs a x y s t p q = (p.1 ∙ sym q.1, same.drop_face_same κs a a 
 pub longest_one : (κs : Lfts 2) (a : Dens κs longest-kinds.ps) (x y : (res_t longest-kinds.r κs).Denot)
     (s t : AtExit (ended_of 2 longest-kinds.ps longest-kinds.r) κs)
     → longest-reads.Post κs a x s → longest-reads.Post κs a y t → x ≡ y
-longest_one κs a x y s t p q = place_one _ x y (same.longest_same κs a a x y s t refl refl p q)
+longest_one κs a x y s t p q = found_one _ x y (same.longest_same κs a a x y s t refl refl p q)
 
 -- two class words of a route are the same
 pub class_of_one : (κs : Lfts 1) (a : Dens κs class-of-kinds.ps) (x y : (res_t class-of-kinds.r κs).Denot)

@@ -1,7 +1,7 @@
 // The routes: a prefix, its class word, the set of its next hops and their costs, a row for each, in the order in which they were set.
 #![tactic(auto)]
 
-ghost use Rattle.std.specs.Prelude.{◌≡◌, [], map, min, ◌≤◌, length, get_or, MatchOption};
+ghost use Rattle.std.specs.Prelude.{◌≡◌, [], map, min, ◌≤◌, ◌<◌, length, get_or, MatchOption};
 ghost use Rattle.std.proofs.Math.Option.{none, some};
 ghost use Rattle.laws.specs.Lists.{on_at, without};
 ghost use Rattle.sizes.specs.Sizes.{most_faces, most_routes, most_name};
@@ -10,6 +10,7 @@ ghost use Rattle.records.specs.Class.{class_of};
 ghost use Rattle.records.specs.Slots.{is_some, given};
 ghost use Rattle.records.specs.Route.{route_of, new_route, with_hop, hop_at, cheapest_of};
 ghost use Rattle.routes.specs.Places.View.{view, placed, found, count_of, route_row};
+ghost use Rattle.faces.specs.Found.{face_in};
 ghost use Rattle.routes.specs.Places.Hop.{least_of};
 ghost use Rattle.routes.specs.Operations.{Sets, longest_at, hops_of, class_word};
 
@@ -31,12 +32,13 @@ pub struct Row {
 }
 
 // The routes ("Routes 32"), and how many there are. Nobody above reads its fields.
+#[derive(Drop)]
 pub struct Routes {
     rows: [Row; ROUTES],
     count: usize,
 }
 
-// A route, or none. Nobody above reads its field.
+// A route. Nobody above reads its field.
 #[derive(Clone, Copy, Debug, PartialEq, Eq)]
 pub struct Handle {
     at: usize,
@@ -78,28 +80,19 @@ impl Row {
         self.hops = faces::remove(self.hops, face);
     }
 
-    // The cheapest hop that is in a set of faces, "ties to the lower face"; 0 where there is none.
-    fn cheapest(&self, set: u64) -> usize
-        ensures { result ≡ given 0 (λ f. f) (cheapest_of (has_face most_faces set) (route_row most_faces self.now)) }
+    // The cheapest hop that is in a set of faces, "ties to the lower face".
+    fn cheapest(&self, set: u64) -> Option<usize>
+        ensures { face_in result ≡ cheapest_of (has_face most_faces set) (route_row most_faces self.now) }
     {
         least(faces::common(self.hops, set), &self.costs)
     }
 }
 
-// The face of the least cost among those of a set, the lowest of them; 0 where the set has none.
-fn least(set: u64, costs: &[u64; FACES]) -> usize
-    ensures { result ≡ given 0 (λ h. h.face) (least_of most_faces (λ i. get_or costs.now i 0) set) }
+// The face of the least cost among those of a set, the lowest of them.
+fn least(set: u64, costs: &[u64; FACES]) -> Option<usize>
+    ensures { face_in result ≡ given none (λ h. some h.face) (least_of most_faces (λ i. get_or costs.now i 0) set) }
 {
-    let mut walk = Walk::of(set);
-    let Some(mut best) = walk.next() else {
-        return 0;
-    };
-    for face in walk {
-        if costs[face - 1] < costs[best - 1] {
-            best = face;
-        }
-    }
-    best
+    Walk::of(set).min_by_key(|face| costs[*face - 1])
 }
 
 impl Routes {
@@ -143,16 +136,15 @@ impl Routes {
         self.count = 0;
     }
 
-    // The route of a prefix, or none.
-    pub fn find(&self, prefix: &[u8]) -> Handle
-        ensures { placed self.now result ≡ route_of prefix.now (view self.now) }
+    // The route of a prefix, if it is known.
+    pub fn find(&self, prefix: &[u8]) -> Option<Handle>
+        ensures { MatchOption result (route_of prefix.now (view self.now) ≡ length (view self.now))
+            (λ h. (placed self.now h ≡ route_of prefix.now (view self.now)) × (placed self.now h < length (view self.now))) }
     {
-        let n = self.count();
-        let at = self.rows[..n]
+        self.rows[..self.count()]
             .iter()
             .position(|row| same(prefix, row.prefix()))
-            .unwrap_or(n);
-        Handle { at }
+            .map(|at| Handle { at })
     }
 
     // Whether a handle stands for a route.
@@ -168,10 +160,10 @@ impl Routes {
         ensures sets { Sets most_faces result (view self.new) prefix.now (class_of class) (view self.old) }
         ensures counted { count_of self.new ≡ length (view self.new) }
     {
-        let known = self.find(prefix).at;
+        let known = self.find(prefix);
         self.count = self.count();
-        if known < self.count {
-            self.rows[known].class = class;
+        if let Some(route) = known {
+            self.rows[route.at].class = class;
             true
         } else if prefix.len() <= NAME && self.count < ROUTES {
             self.rows[self.count].start(prefix, class);
@@ -232,23 +224,23 @@ impl Routes {
         }
     }
 
-    // "the longest matching route" for a name, or none.
-    pub fn longest(&self, name: &[u8]) -> Handle
-        ensures { placed self.now result ≡ longest_at name.now (view self.now) }
+    // "the longest matching route" for a name, if one matches.
+    pub fn longest(&self, name: &[u8]) -> Option<Handle>
+        ensures { MatchOption result (longest_at name.now (view self.now) ≡ length (view self.now))
+            (λ h. (placed self.now h ≡ longest_at name.now (view self.now)) × (placed self.now h < length (view self.now))) }
     {
         // From the last route to the first: what was found so far gives way to a match that is no shorter.
-        let n = self.count();
-        let mut best = n;
+        let mut best = None;
         let mut most = 0;
-        for i in (0..n).rev() {
+        for i in (0..self.count()).rev() {
             let prefix = self.rows[i].prefix();
             let len = prefix.len();
             if most <= len && is_prefix(prefix, name) {
-                best = i;
+                best = Some(Handle { at: i });
                 most = len;
             }
         }
-        Handle { at: best }
+        best
     }
 
     // The class word of a route; 0, which is no class, where there is none.
@@ -265,10 +257,10 @@ impl Routes {
         self.row(route).map_or(0, |row| faces::members(row.hops))
     }
 
-    // The cheapest next hop of a route that is in a set of faces, "ties to the lower face"; 0 where there is none.
-    pub fn cheapest(&self, route: Handle, set: u64) -> usize
-        ensures { result ≡ given 0 (λ f. f) (given none (cheapest_of (has_face most_faces set)) (found self.now route)) }
+    // The cheapest next hop of a route that is in a set of faces, "ties to the lower face".
+    pub fn cheapest(&self, route: Handle, set: u64) -> Option<usize>
+        ensures { face_in result ≡ given none (cheapest_of (has_face most_faces set)) (found self.now route) }
     {
-        self.row(route).map_or(0, |row| row.cheapest(set))
+        self.row(route)?.cheapest(set)
     }
 }

@@ -174,11 +174,9 @@ pub fn send_copies(
 pub fn class_for(routes: &Routes, name: &[u8]) -> u64
     ensures { result ≡ class_number (route_class (longest name.now (known.view routes.now))) }
 {
-    let route = routes.longest(name);
-    if routes.is_there(route) {
-        routes.class_of(route)
-    } else {
-        BULK
+    match routes.longest(name) {
+        Some(route) => routes.class_of(route),
+        None => BULK,
     }
 }
 

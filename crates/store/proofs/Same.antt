@@ -6,7 +6,9 @@ use lib.ListN.{length}
 use contract.Lifetimes.{Lfts}
 use denote.Triple.Clauses.{AtExit}
 use borrow.Fn.Kinds.{Dens, ended_of, res_t}
+use Rattle.std.specs.Option.{option_map}
 use Rattle.store.specs.Places.View.{view, count_of, place}
+use Rattle.store.specs.Laws.Hits.{looks_same}
 use Rattle.store.proofs.Store.is_there.Kinds as is-there-kinds
 use Rattle.store.proofs.Store.is_there.Reads as is-there-reads
 use Rattle.store.proofs.Store.bytes_of.Kinds as bytes-of-kinds
@@ -43,13 +45,13 @@ put_same κs a b x y s t v e f g p q =
     let left = rw (v, e, f, g) at p.0.left ∙ sym q.0.left in
     (said, left, p.1 ∙ ap length left ∙ sym q.1)
 
--- the Data that a lookup takes
+-- the Data that a lookup takes: both take none, or the Data at one place
 pub look_same : (κs : Lfts 2) (a b : Dens κs look-kinds.ps) (x y : (res_t look-kinds.r κs).Denot)
     (s t : AtExit (ended_of 2 look-kinds.ps look-kinds.r) κs)
     → view a.0.now ≡ view b.0.now → a.1.0.now ≡ b.1.0.now → a.1.1.0 ≡ b.1.1.0 → a.1.1.1.0 ≡ b.1.1.1.0 → a.1.1.1.1.0 ≡ b.1.1.1.1.0
     → look-reads.Post κs a x s → look-reads.Post κs b y t
-    → place a.0.now x ≡ place b.0.now y
-look_same κs a b x y s t v e f g h p q = rw (v, e, f, g, h) at p ∙ sym q
+    → option_map (place a.0.now) x ≡ option_map (place b.0.now) y
+look_same κs a b x y s t v e f g h p q = looks_same _ _ (place a.0.now) (place b.0.now) x y (rw (v, e, f, g, h) at p) q
 
 -- a hit that becomes the most recent
 pub touch_same : (κs : Lfts 1) (a b : Dens κs touch-kinds.ps) (x y : (res_t touch-kinds.r κs).Denot)

@@ -5,7 +5,8 @@ use mathlib.Core.Path.{◌≡◌, refl, sym, ◌∙◌}
 use contract.Lifetimes.{Lfts}
 use denote.Triple.Clauses.{AtExit}
 use borrow.Fn.Kinds.{Dens, ended_of, res_t}
-use Rattle.store.specs.Places.View.{view, count_of, place_one}
+use Rattle.store.specs.Places.View.{view, count_of}
+use Rattle.store.specs.Laws.Hits.{looks_one}
 use Rattle.store.proofs.Store.new.Kinds as new-kinds
 use Rattle.store.proofs.Store.new.Reads as new_reads
 use Rattle.store.proofs.Store.clear.Kinds as clear-kinds
@@ -59,7 +60,7 @@ put_one κs a x y s t p q = same.put_same κs a a x y s t refl refl refl refl p 
 pub look_one : (κs : Lfts 2) (a : Dens κs look-kinds.ps) (x y : (res_t look-kinds.r κs).Denot)
     (s t : AtExit (ended_of 2 look-kinds.ps look-kinds.r) κs)
     → look-reads.Post κs a x s → look-reads.Post κs a y t → x ≡ y
-look_one κs a x y s t p q = place_one _ x y (same.look_same κs a a x y s t refl refl refl refl refl p q)
+look_one κs a x y s t p q = looks_one _ x y (same.look_same κs a a x y s t refl refl refl refl refl p q)
 
 -- two outcomes of a hit leave the same Data
 pub touch_one : (κs : Lfts 1) (a : Dens κs touch-kinds.ps) (x y : (res_t touch-kinds.r κs).Denot)

@@ -8,7 +8,7 @@ ghost use Rattle.records.specs.Slots.{given, is_some};
 ghost use Rattle.records.specs.Stored.{serves, earlier, lookup};
 ghost use Rattle.std.proofs.Math.Option.{some};
 ghost use Rattle.store.specs.Places.View.{view, placed, found, count_of, data_of, stored_of};
-ghost use Rattle.store.specs.Operations.{Puts, recent};
+ghost use Rattle.store.specs.Operations.{Puts, Looks, recent};
 ghost use Rattle.store.specs.Places.Put.{is_named, leaver};
 ghost use Rattle.store.specs.Places.Look.{answers, in_time, hit, hit_at};
 
@@ -17,8 +17,8 @@ use packethead::find_name;
 use rows::part;
 use sizes::{PACKET, STORED};
 
-// A Data: the bytes of its packet ("Packet at most 1,500 bytes") and how many of them there are, when it was stored, and its freshness as it
-// counts.
+// A Data: the bytes of its packet ("Packet at most 1,500 bytes") and how many of them there are, when it was stored, and its freshness as
+// it counts.
 #[derive(Clone, Copy)]
 pub struct Row {
     packet: [u8; PACKET],
@@ -28,12 +28,13 @@ pub struct Row {
 }
 
 // The Data ("stored Data 8"), and how many there are. Nobody above reads its fields.
+#[derive(Drop)]
 pub struct Store {
     rows: [Row; STORED],
     count: usize,
 }
 
-// A Data, or none. Nobody above reads its field.
+// A Data; once that has gone, another one or none. Nobody above reads its field.
 #[derive(Clone, Copy, Debug, PartialEq, Eq)]
 pub struct Handle {
     at: usize,
@@ -215,20 +216,17 @@ impl Store {
         }
     }
 
-    // The Data that a lookup takes, or none: "of those it takes the first in canonical order".
-    pub fn look(&self, name: &[u8], prefix: bool, fresh: bool, time: u64) -> Handle
-        ensures { placed self.now result ≡ given (length (view self.now)) (λ h. h.place) (lookup time name.now prefix fresh (view self.now)) }
+    // The Data that a lookup takes, if it takes one: "of those it takes the first in canonical order".
+    pub fn look(&self, name: &[u8], prefix: bool, fresh: bool, time: u64) -> Option<Handle>
+        ensures { Looks result (placed self.now) (view self.now) (lookup time name.now prefix fresh (view self.now)) }
     {
-        let all = self.len();
         let mut best = None;
-        for i in (0..all).rev() {
+        for i in (0..self.len()).rev() {
             if self.rows[i].is_served(name, prefix, fresh, time) {
                 best = Some(self.earlier_of(i, best));
             }
         }
-        Handle {
-            at: best.unwrap_or(all),
-        }
+        best.map(|at| Handle { at })
     }
 
     // A hit becomes the most recent; a handle that stands for no Data changes nothing.

@@ -7,6 +7,7 @@ use mathlib.Core.Option.{none}
 use contract.Lifetimes.{Lfts}
 use denote.Triple.Clauses.{AtExit}
 use borrow.Fn.Kinds.{Dens, ended_of, res_t}
+use Rattle.faces.specs.Laws.Found.{face_one}
 use Rattle.faces.specs.Places.View as faces
 use Rattle.dead.specs.Places.View as dead
 use Rattle.routes.specs.Places.View as routes
@@ -108,4 +109,4 @@ next_hop_one κs a x y s t p q =
       };
       bytes = [];
     } in
-    p n i refl refl refl refl refl ∙ sym (q n i refl refl refl refl refl)
+    face_one x y (p n i refl refl refl refl refl ∙ sym (q n i refl refl refl refl refl))

@@ -3,5 +3,4 @@ pub mod Eligible
 pub mod Loops
 pub mod Local
 pub mod Next
-pub mod Said
 pub mod Own

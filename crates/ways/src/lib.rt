@@ -10,6 +10,7 @@ ghost use Rattle.records.specs.Route.{longest};
 ghost use Rattle.records.specs.Entry.{own_nonce};
 ghost use Rattle.faces.specs.Set.{faces_where};
 ghost use Rattle.faces.specs.Places.View.{view};
+ghost use Rattle.faces.specs.Found.{face_in};
 ghost use Rattle.dead.specs.Places.View as dead;
 ghost use Rattle.routes.specs.Places.View as routes;
 ghost use Rattle.pending_table.specs.Places.View.{entry_at};
@@ -113,31 +114,36 @@ fn is_from_local(p: &Pending, h: Handle, faces: Faces) -> bool
 }
 
 // "in the longest matching route, use the cheapest eligible hop without an out-record; failing that, the eligible hop with the earliest
-// one", 0 where there is none or no entry.
-fn choose(known: &Routes, p: &Pending, h: Handle, name: &[u8], may: u64) -> usize
+// one".
+fn choose(known: &Routes, p: &Pending, h: Handle, name: &[u8], may: u64) -> Option<usize>
     ensures { (q : ℕ → Bool) → may ≡ faces_where most_faces q
-        → result ≡ given 0 (λ f. f) (next_of q (longest name.now (routes.view known.now)) (entry_at p.now h)) }
+        → face_in result ≡ next_of q (longest name.now (routes.view known.now)) (entry_at p.now h) }
 {
-    let route = known.longest(name);
+    let route = known.longest(name)?;
     let unsent = pending_handle::unsent(p, h, may);
-    let first = known.cheapest(route, unsent);
-    if first != 0 {
-        first
-    } else {
-        let hops = known.hops_of(route);
-        pending_handle::earliest(p, h, common(hops, may))
+    match known.cheapest(route, unsent) {
+        Some(first) => Some(first),
+        None => {
+            let hops = known.hops_of(route);
+            pending_handle::earliest(p, h, common(hops, may))
+        }
     }
 }
 
-// The hop that a further Interest of an entry takes, 0 for none and for no entry: "If the newest out-record was sent under 100 ms ago, send
-// nothing."
-pub fn next_hop(m: &Memory, h: Handle, face: usize, name: &[u8], hop: Option<HopLimit>) -> usize
+// The hop that a further Interest of an entry takes, if any: "If the newest out-record was sent under 100 ms ago, send nothing."
+pub fn next_hop(
+    m: &Memory,
+    h: Handle,
+    face: usize,
+    name: &[u8],
+    hop: Option<HopLimit>,
+) -> Option<usize>
     ensures { (n : Node) (a : Arrival) → n.faces ≡ view m.now.faces → n.routes ≡ routes.view m.now.routes
         → a.face ≡ face → a.ask.name ≡ name.now → a.ask.hop ≡ limit_of hop
-        → result ≡ given 0 (λ f. f) (resends_by m.now.time n a (entry_at m.now.pending h)) }
+        → face_in result ≡ resends_by m.now.time n a (entry_at m.now.pending h) }
 {
     if pending_handle::is_suppressed(&m.pending, h, m.time) {
-        return 0;
+        return None;
     }
     let local = is_from_local(&m.pending, h, m.faces);
     let may = eligible(m.faces, face, hop, name, local);

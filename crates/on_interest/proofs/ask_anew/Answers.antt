@@ -2,14 +2,14 @@
 use Rattle.on_interest.specs.Laws.Anew.{anew_serves, anew_routes}
 use Rattle.on_interest.proofs.ask_anew.Goals as goal
 
-pub returns-then-is_there : goal.returns-then-is_there
-returns-then-is_there c =
+pub returns-in-Some : goal.returns-in-Some
+returns-in-Some c =
     let a = c.args in
-    anew_serves a.m.now a.made a.face a.bare.now a.name.now a.i _ c.requires.own c.look-hit.ensures _ c.is_there.ensures _ _ _ _
-    c.if-is_there.true (c.serve.ensures a.rows.now)
+    anew_serves a.m.now a.made a.face a.bare.now a.name.now a.i c.requires.own _ c.look.ensures _ _ _ _ _
+    c.in-Some.is (c.serve.ensures a.rows.now)
 
-pub returns-else-is_there : goal.returns-else-is_there
-returns-else-is_there c =
+pub returns-in-None : goal.returns-in-None
+returns-in-None c =
     let a = c.args in
-    anew_routes a.m.now a.made a.face a.bare.now a.name.now a.i _ c.requires.own c.look-hit.ensures _ c.is_there.ensures _ _ _ _
-    c.if-is_there.false c.requires c.route.ensures
+    anew_routes a.m.now a.made a.face a.bare.now a.name.now a.i c.requires.own _ c.look.ensures _ _ _ _
+    c.in-None.is c.requires c.route.ensures

@@ -1,14 +1,13 @@
 -- A further Interest of an entry, as the code stores it, notes it and sends it on.
 -- Assumes nothing.
 use Prim.Native.Nat.{ℕ, zero, suc, ◌+◌, min}
-use Rattle.std.specs.Prelude.{◌≡◌, ◌≢◌, length}
+use Rattle.std.specs.Prelude.{◌≡◌, length}
 use Rattle.std.proofs.Math.Path.{refl, ap}
-use Rattle.std.proofs.Common.{sym, ◌∙◌, arith, eq-eqb, ne_eqb}
+use Rattle.std.proofs.Common.{sym, ◌∙◌, arith}
 use mathlib.Core.List.{List, [], ◌∷◌, map}
-use Rattle.std.proofs.Math.Option.{Option, some, none-ne-some, some-injective}
+use Rattle.std.proofs.Math.Option.{Option, none, some, none-ne-some, some-injective}
 use Rattle.answers.specs.declared.Answer.{Answer}
 use Rattle.laws.specs.Pick.{pick}
-use Rattle.laws.specs.Laws.Pick.{pick_yes, pick_no}
 use Rattle.laws.specs.Lists.{on_at}
 use Rattle.sizes.specs.Sizes.{most_faces, most_time, most_lifetime}
 use Rattle.packets.specs.declared.bare.Interest.{Interest}
@@ -32,7 +31,6 @@ use Rattle.rules.specs.Packed.{packed, packed_from}
 use Rattle.rules.specs.Interest.{Arrival, request_of, sent_of, forwards, opens, resends, sends_on, renews, asks_again}
 use Rattle.sending.specs.Rows.{Packs, if_room}
 use Rattle.sending.specs.Laws.One.{interest_fits}
-use Rattle.ways.specs.Laws.Said.{resends_said}
 use Rattle.event.specs.declared.Memory.{Memory}
 use Rattle.event.specs.Memory.{Table, node_of}
 use Rattle.coming.specs.Goes.{Goes}
@@ -67,12 +65,12 @@ pub facts_class : (o : Option Entry) (x : Entry) (r : Facts) → o ≡ some x �
 unfolding given facts_of
 facts_class o x r e q = let z : given nothing facts_of o ≡ facts_of x = rw e in ap (λ (y : Facts). y.class) (q ∙ z)
 
-module _ (m : Memory) (k f : ℕ) (bare name : List ℕ) (i : Interest) (j j' : ℕ) (x : Entry) (expiry to made : ℕ) (asked : Pending)
+module _ (m : Memory) (k f : ℕ) (bare name : List ℕ) (i : Interest) (j j' : ℕ) (x : Entry) (expiry : ℕ) (to : Option ℕ) (made : ℕ) (asked : Pending)
     (hs hs' : Table) (b : List ℕ) (g : Guarded m.time (length b) bare name) (at : at_place j (view m.pending) ≡ some x)
     (ee : expiry ≡ min m.time most_time + min i.lifetime most_lifetime)
     (er : view asked ≡ on_at j (asking f (request_with i.nonce expiry)) (view m.pending)) (same : j' ≡ j)
     (next : (n : Node) (a : Arrival) (e : Entry) → n.faces ≡ faces.view m.faces → n.routes ≡ routes.view m.routes → a.face ≡ f
-    → a.ask.name ≡ name → a.ask.hop ≡ limit_of i.hop → at_place j' (view asked) ≡ some e → to ≡ given 0 (λ h. h) (resends m.time n a e))
+    → a.ask.name ≡ name → a.ask.hop ≡ limit_of i.hop → at_place j' (view asked) ≡ some e → to ≡ resends m.time n a e)
     (noted : Notes most_rows made hs' hs k
     (map row_of (pick (is_some (slot f x.requests)) []
     (happens opened m.time x (record { face = f; what = request_with i.nonce expiry }) ∷ [])))) where
@@ -99,7 +97,7 @@ module _ (m : Memory) (k f : ℕ) (bare name : List ℕ) (i : Interest) (j j' : 
   request = rw expires
 
   -- the hop that the code found is that of the rules
-  hop : to ≡ given 0 (λ h. h) (resends (node_of m).time (node_of m) (arrival_found f bare i) e')
+  hop : to ≡ resends (node_of m).time (node_of m) (arrival_found f bare i) e'
   unfolding node_of arrival_found ask_found
   hop = next _ _ e' refl refl refl (sym g.own) refl
       (ap (λ (z : ℕ). at_place z (view asked)) same ∙ ap (at_place j) er ∙ at_changed j _ es x at)
@@ -114,13 +112,13 @@ module _ (m : Memory) (k f : ℕ) (bare name : List ℕ) (i : Interest) (j j' : 
   again = rw (request, faced)
 
   -- where there is no hop, nothing is sent
-  pub again_quiet : (ss : Table) → to ≡ 0
+  pub again_quiet : (ss : Table) → to ≡ none
       → Goes k (asks_again (node_of m).time (node_of m) (arrival_found f bare i) j x) (came Answer.Done 0 made)
       (node_of (record m { pending = asked }))
       (record { sends = ss; buffer = b; rows = hs }) (record { sends = ss; buffer = b; rows = hs' })
   unfolding sends_on node_of given packed packed_from
   again_quiet ss z =
-      rw (again, resends_said _ _ _ _ to hop ∙ pick_yes _ _ _ (eq-eqb to 0 z))
+      rw (again, sym hop ∙ z)
       (record {
         answer = refl;
         node = rw (er, on_known j (asking f (request_with i.nonce expiry)) es x at);
@@ -131,24 +129,24 @@ module _ (m : Memory) (k f : ℕ) (bare name : List ℕ) (i : Interest) (j j' : 
       })
 
   -- where there is one, it is sent there
-  pub again_sends : (w : ℕ) (left : Pending) (t : ℕ) (ss ss' : Table) (b' : List ℕ) → to ≢ 0
+  pub again_sends : (u w : ℕ) (left : Pending) (t : ℕ) (ss ss' : Table) (b' : List ℕ) → to ≡ some u
       → w ≡ class_number x.cls
-      → view left ≡ on_at j' (sending to (sent_with i.nonce m.time)) (view asked)
+      → view left ≡ on_at j' (sending u (sent_with i.nonce m.time)) (view asked)
       → Packs (if_room (lowered bare i.hop) b
-      (record { face = to; kind = interest; cls = class_of w; bytes = lowered bare i.hop } ∷ []))
+      (record { face = u; kind = interest; cls = class_of w; bytes = lowered bare i.hop } ∷ []))
       t ss ss' b b'
       → Goes k (asks_again (node_of m).time (node_of m) (arrival_found f bare i) j x) (came Answer.Done t made)
       (node_of (record m { pending = left }))
       (record { sends = ss; buffer = b; rows = hs }) (record { sends = ss'; buffer = b'; rows = hs' })
   unfolding sends_on node_of given forwards arrival_found ask_found sent_of asking with_requests
-  again_sends w left t ss ss' b' z ew es' p =
+  again_sends u w left t ss ss' b' z ew es' p =
       let c : class_of w ≡ x.cls = rw ew (view_said most_faces _ _ _ _ _ j x at) in
-      let sent : Packs (record { face = to; kind = interest; cls = class_of w; bytes = lowered bare i.hop } ∷ []) t ss ss' b b' =
-      rw (interest_fits bare i.hop b (record { face = to; kind = interest; cls = class_of w; bytes = lowered bare i.hop } ∷ [])
+      let sent : Packs (record { face = u; kind = interest; cls = class_of w; bytes = lowered bare i.hop } ∷ []) t ss ss' b b' =
+      rw (interest_fits bare i.hop b (record { face = u; kind = interest; cls = class_of w; bytes = lowered bare i.hop } ∷ [])
       g.small g.roomy) at p in
       let own = rw c at sent in
-      let both = es' ∙ ap (λ (q : ℕ). on_at q (sending to (sent_with i.nonce m.time)) (view asked)) same
-      ∙ ap (on_at j (sending to (sent_with i.nonce m.time))) er
+      let both = es' ∙ ap (λ (q : ℕ). on_at q (sending u (sent_with i.nonce m.time)) (view asked)) same
+      ∙ ap (on_at j (sending u (sent_with i.nonce m.time))) er
       ∙ on_twice j _ _ es ∙ on_known j _ es x at in
-      rw (again, resends_said _ _ _ _ to hop ∙ pick_no _ _ _ (ne_eqb to 0 z))
+      rw (again, sym hop ∙ z)
       (record { answer = refl; node = rw both; sent = own.sent; sends = own.noted; buffer = own.buffer; noted = noted })

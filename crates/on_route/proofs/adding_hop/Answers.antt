@@ -1,7 +1,7 @@
 -- One law for each arm.
 use mathlib.Core.Path.{sym, ◌∙◌}
 use Rattle.event.specs.Places.Begins.{answer_of}
-use Rattle.on_route.specs.Laws.Routes.{add_refused, add_cost, add_none, add_done}
+use Rattle.on_route.specs.Laws.Routes.{add_refused, add_cost, add_none, add_done, sought_none, sought_some, error_passed}
 use Rattle.on_route.proofs.adding_hop.Goals as goal
 
 pub returns-in_err-check : goal.returns-in_err-check
@@ -12,14 +12,15 @@ pub returns-then-cost-gt-MOST_COST : goal.returns-then-cost-gt-MOST_COST
 unfolding answer_of
 returns-then-cost-gt-MOST_COST c = add_cost _ _ _ (sym c.check.ensures ∙ c.in_ok-check.was) _ _ c.if-cost-gt-MOST_COST.true
 
-pub returns-then-not-is_there : goal.returns-then-not-is_there
-unfolding answer_of
-returns-then-not-is_there c =
-    add_none _ _ _ (sym c.check.ensures ∙ c.in_ok-check.was) _ c.find-route.ensures _ c.is_there.ensures
-    _ _ c.if-cost-gt-MOST_COST.false c.if-not-is_there.true
+pub returns-in_err-route : goal.returns-in_err-route
+returns-in_err-route c =
+    let (none, is) = sought_none _ _ _ _ _ c.find.ensures (sym c.in_err-route.was ∙ c.ok_or.ensures.value) in
+    rw (error_passed _ _ c.from_residual-in_err-route.ensures.1, is)
+    (add_none _ _ _ (sym c.check.ensures ∙ c.in_ok-check.was) none _ _ c.if-cost-gt-MOST_COST.false)
 
 pub returns : goal.returns
 unfolding answer_of
 returns c =
-    add_done _ _ _ (sym c.check.ensures ∙ c.in_ok-check.was) _ c.find-route.ensures _ c.is_there.ensures
-    _ _ c.if-cost-gt-MOST_COST.false c.if-not-is_there.false _ c.add_hop.ensures.changed
+    let (is, there) = sought_some _ _ _ _ _ c.find.ensures (sym c.in_ok-route.was ∙ c.ok_or.ensures.value) in
+    add_done _ _ _ (sym c.check.ensures ∙ c.in_ok-check.was) _ is there
+    _ _ c.if-cost-gt-MOST_COST.false _ c.add_hop.ensures.changed

@@ -1,24 +1,27 @@
 -- Setting and dropping a route, and adding and dropping a hop, past ageing: one law for each arm.
 -- Assumes nothing.
 use Prim.Native.Nat.{ℕ, ◌≤◌, ◌<◌}
-use Rattle.std.specs.Prelude.{◌≡◌, Bool, true, false, ◌||◌, ◌≢◌, ltb, leb, eqb, Result, Ok, Err, IsErrAnd}
+use Rattle.std.specs.Prelude.{◌≡◌, Bool, true, false, ◌||◌, ◌≢◌, leb, eqb, Result, Ok, Err, IsErrAnd, MatchOption, Some, None}
+use Rattle.std.specs.declared.option.Option as code
+use Rattle.std.specs.Option.{ok_or}
+use Rattle.std.specs.Result.{is_ok}
 use Rattle.std.proofs.Math.Path.{refl, ap}
 use Rattle.std.proofs.Common.{sym, ◌∙◌, arith, lt-ltb, le-ltb, ne_eqb}
 use Rattle.std.proofs.Math.Bool.{not}
 use mathlib.Core.List.{List, [], ◌∷◌, ◌++◌}
-use Rattle.std.proofs.Math.Option.{Option, none, some}
+use Rattle.std.proofs.Math.Option.{none, some}
 use Rattle.std.proofs.Math.ListN.{length}
-use Rattle.std.proofs.lemmas.Bool.{eqb-false}
+use Rattle.std.proofs.lemmas.Bool.{eqb-false, false≢true}
 use Rattle.answers.specs.declared.Answer.{Answer}
 use Rattle.laws.specs.Pick.{pick}
 use Rattle.laws.specs.Lists.{on_at, without}
 use Rattle.laws.specs.Laws.Pick.{pick_ind, pick_yes, pick_no}
 use Rattle.sizes.specs.Sizes.{most_faces, most_routes, most_name, most_cost}
 use Rattle.records.specs.Class.{Class, class_of, is_class}
-use Rattle.records.specs.Slots.{at_place, is_some, slot, given}
+use Rattle.records.specs.Slots.{is_some}
 use Rattle.records.specs.Route.{Route, route_of, with_hop, hop_at, with_class, new_route}
 use Rattle.routes.specs.Operations.{is_route, Sets}
-use Rattle.routes.specs.Laws.Bridge.{there_less, set_said, set_left}
+use Rattle.routes.specs.Laws.Bridge.{set_said, set_left}
 use Rattle.rules.specs.Node.{Node, with_routes, set_route, drop_route, add_hop, drop_hop}
 use Rattle.rules.specs.Outcome.{Outcome, quiet}
 use Rattle.rules.specs.Command.{on_route, set_route_step, drop_route_step, add_hop_step, drop_hop_step}
@@ -48,27 +51,34 @@ a_class k z h =
     P : Class → Type 0
     P c = true ≡ is_class c
 
-module _ (p : List ℕ) (rs : List Route) (i : ℕ) (ei : i ≡ route_of p rs) (t : Bool) (et : t ≡ is_some (at_place i rs)) where
-  -- whether a prefix is known
-  known : ltb (route_of p rs) (length rs) ≡ t
-  known = rw (← ei) (sym (there_less i rs) ∙ sym et)
+module _ (p : List ℕ) (rs : List Route) (n : Node) (x : ℕ → Outcome) where
+  -- a command on a known prefix
+  on_there : (i : ℕ) → i ≡ route_of p rs → i < length rs → on_route (with_routes n rs) p x ≡ x i
+  unfolding on_route
+  on_there i ei h = pick_yes _ _ _ (lt-ltb _ _ (omega (arith, ei, h))) ∙ ap x (sym ei)
 
-  module _ (n : Node) (x : ℕ → Outcome) where
-    -- a command on a known prefix
-    on_there : t ≡ true → on_route (with_routes n rs) p x ≡ x i
-    unfolding on_route
-    on_there q = pick_yes _ _ _ (known ∙ q) ∙ ap x (sym ei)
+  -- and on something absent
+  on_none : route_of p rs ≡ length rs → on_route (with_routes n rs) p x ≡ quiet Answer.NoRoute (with_routes n rs)
+  unfolding on_route
+  on_none e = pick_no _ _ _ (le-ltb _ _ (omega (arith, e)))
 
-    -- and on something absent
-    on_none : t ≡ false → on_route (with_routes n rs) p x ≡ quiet Answer.NoRoute (with_routes n rs)
-    unfolding on_route
-    on_none q = pick_no _ _ _ (known ∙ q)
+-- where nothing was found, the error that stands beside it
+pub sought_none : {A : Type 0} (o : code.Option A) (P : Type 0) (Q : A → Type 0) (y d : Answer) → MatchOption o P Q
+    → Err y ≡ ok_or o d → P × (y ≡ d)
+sought_none {A} None P Q y d m q = let w : ◌≡◌ {A = Result A Answer} (Err y) (Err d) = q in let i : y ≡ d = cc in (m, i)
+sought_none {A} (Some a) P Q y d m q = absurd (false≢true (ap is_ok q))
 
--- a route that has a hop is there
-hop_there : (f : ℕ) (o : Option Route) → is_some (given none (λ (r : Route). slot f r.hops) o) ≡ true → is_some o ≡ true
-unfolding given is_some
-hop_there f none e = e
-hop_there f (some r) e = refl
+-- and what was found
+pub sought_some : {A : Type 0} (o : code.Option A) (P : Type 0) (Q : A → Type 0) (a : A) (d : Answer) → MatchOption o P Q
+    → Ok a ≡ ok_or o d → Q a
+sought_some {A} None P Q a d m q = absurd (false≢true (ap is_ok (sym q)))
+sought_some {A} (Some b) P Q a d m q = let w : ◌≡◌ {A = Result A Answer} (Ok a) (Ok b) = q in let i : a ≡ b = cc in rw i m
+
+-- an error that is passed on is the answer
+pub error_passed : (r : Result (Unit {0}) Answer) (y : Answer) → IsErrAnd r (λ a. a ≡ y) → answer_of r ≡ y
+unfolding answer_of
+error_passed (Ok u) y h = absurd h
+error_passed (Err a) y h = h
 
 -- by whether a prefix is known, a, and whether the table is full, b: the answer and the routes that setting a route comes to
 set_arms : (n : Node) (rs xs ys rs' : List Route) (a b t : Bool) → t ≡ (a || not b) → rs' ≡ pick a xs (pick b rs ys)
@@ -135,54 +145,53 @@ module _ (p : List ℕ) (rs : List Route) where
     unfolding what_step add_hop_step
     add_cost f cost h time n = prefix_on p u e (with_routes n rs) _ ∙ pick_yes _ _ _ (lt-ltb most_cost cost h)
 
-    module _ (i : ℕ) (ei : i ≡ route_of p rs) where
-      module _ (t : Bool) (et : t ≡ is_some (at_place i rs)) where
-        -- a route that is absent is not dropped
-        pub drop_none : t ≡ false → RoutesBy (drop_route p) rs Answer.NoRoute rs
-        unfolding what_step drop_route_step
-        drop_none q time n = prefix_on p u e (with_routes n rs) _ ∙ on_none p rs i ei t et n _ q
+    module _ (z : route_of p rs ≡ length rs) where
+      -- a route that is absent is not dropped
+      pub drop_none : RoutesBy (drop_route p) rs Answer.NoRoute rs
+      unfolding what_step drop_route_step
+      drop_none time n = prefix_on p u e (with_routes n rs) _ ∙ on_none p rs n _ z
 
-        -- a known one is
-        pub drop_done : t ≡ true → (rs' : List Route) → rs' ≡ without i rs → RoutesBy (drop_route p) rs Answer.Done rs'
-        unfolding what_step drop_route_step
-        drop_done q rs' l time n =
-            prefix_on p u e (with_routes n rs) _ ∙ on_there p rs i ei t et n _ q
-            ∙ ap (λ (z : List Route). quiet Answer.Done (with_routes n z)) (sym l)
+      -- to a route that is absent no hop is added
+      pub add_none : (f cost : ℕ) → cost ≤ most_cost → RoutesBy (add_hop f cost p) rs Answer.NoRoute rs
+      unfolding what_step add_hop_step
+      add_none f cost h time n =
+          prefix_on p u e (with_routes n rs) _ ∙ pick_no _ _ _ (le-ltb most_cost cost h) ∙ on_none p rs n _ z
 
-        module _ (f cost : ℕ) (h : cost ≤ most_cost) where
-          -- to a route that is absent no hop is added
-          pub add_none : t ≡ false → RoutesBy (add_hop f cost p) rs Answer.NoRoute rs
-          unfolding what_step add_hop_step
-          add_none q time n =
-              prefix_on p u e (with_routes n rs) _ ∙ pick_no _ _ _ (le-ltb most_cost cost h) ∙ on_none p rs i ei t et n _ q
+      -- and from one none is dropped
+      pub hop_unknown : (f : ℕ) → RoutesBy (drop_hop f p) rs Answer.NoRoute rs
+      unfolding what_step drop_hop_step
+      hop_unknown f time n = prefix_on p u e (with_routes n rs) _ ∙ on_none p rs n _ z
 
-          -- to a known one it is
-          pub add_done : t ≡ true → (rs' : List Route) → rs' ≡ on_at i (with_hop f (some cost)) rs
-              → RoutesBy (add_hop f cost p) rs Answer.Done rs'
-          unfolding what_step add_hop_step
-          add_done q rs' l time n =
-              prefix_on p u e (with_routes n rs) _ ∙ pick_no _ _ _ (le-ltb most_cost cost h) ∙ on_there p rs i ei t et n _ q
-              ∙ ap (λ (z : List Route). quiet Answer.Done (with_routes n z)) (sym l)
+    module _ (i : ℕ) (ei : i ≡ route_of p rs) (there : i < length rs) where
+      -- a known route is dropped
+      pub drop_done : (rs' : List Route) → rs' ≡ without i rs → RoutesBy (drop_route p) rs Answer.Done rs'
+      unfolding what_step drop_route_step
+      drop_done rs' l time n =
+          prefix_on p u e (with_routes n rs) _ ∙ on_there p rs n _ i ei there
+          ∙ ap (λ (z : List Route). quiet Answer.Done (with_routes n z)) (sym l)
+
+      -- to a known one a hop is added
+      pub add_done : (f cost : ℕ) → cost ≤ most_cost → (rs' : List Route) → rs' ≡ on_at i (with_hop f (some cost)) rs
+          → RoutesBy (add_hop f cost p) rs Answer.Done rs'
+      unfolding what_step add_hop_step
+      add_done f cost h rs' l time n =
+          prefix_on p u e (with_routes n rs) _ ∙ pick_no _ _ _ (le-ltb most_cost cost h) ∙ on_there p rs n _ i ei there
+          ∙ ap (λ (z : List Route). quiet Answer.Done (with_routes n z)) (sym l)
 
       module _ (f : ℕ) (t : Bool) (et : t ≡ is_some (hop_at f i rs)) where
         -- a hop that is there is dropped
         pub hop_done : t ≡ true → (rs' : List Route) → rs' ≡ on_at i (with_hop f none) rs → RoutesBy (drop_hop f p) rs Answer.Done rs'
-        unfolding what_step drop_hop_step hop_at
+        unfolding what_step drop_hop_step
         hop_done q rs' l time n =
             prefix_on p u e (with_routes n rs) _
-            ∙ on_there p rs i ei (is_some (at_place i rs)) refl n _ (hop_there f (at_place i rs) (sym et ∙ q))
+            ∙ on_there p rs n _ i ei there
             ∙ pick_yes _ _ _ (sym et ∙ q)
             ∙ ap (λ (z : List Route). quiet Answer.Done (with_routes n z)) (sym l)
 
-        -- one that is absent, or on a route that is, is not
+        -- one that is absent is not
         pub hop_none : t ≡ false → RoutesBy (drop_hop f p) rs Answer.NoRoute rs
         unfolding what_step drop_hop_step
-        hop_none q time n = prefix_on p u e (with_routes n rs) _ ∙ go (is_some (at_place i rs)) refl
-          where
-            x : ℕ → Outcome
-            x j = pick (is_some (hop_at f j rs)) (quiet Answer.Done (with_routes n (on_at j (with_hop f none) rs)))
-                (quiet Answer.NoRoute (with_routes n rs))
-
-            go : (b : Bool) → b ≡ is_some (at_place i rs) → on_route (with_routes n rs) p x ≡ quiet Answer.NoRoute (with_routes n rs)
-            go true eb = on_there p rs i ei true eb n x refl ∙ pick_no _ _ _ (sym et ∙ q)
-            go false eb = on_none p rs i ei false eb n x refl
+        hop_none q time n =
+            prefix_on p u e (with_routes n rs) _
+            ∙ on_there p rs n _ i ei there
+            ∙ pick_no _ _ _ (sym et ∙ q)

@@ -10,30 +10,29 @@ pub returns-in-Err : goal.returns-in-Err
 returns-in-Err c =
     goes_is _ _ _ _ _ _ _ c.quiet.ensures (guard_refuses c.args.m.now _ _ _ _ _ _ c.guard.ensures _ _ c.in-Err.is)
 
-pub returns-then-to-eq0 : goal.returns-then-to-eq0
-returns-then-to-eq0 c =
+pub returns-in_default-way : goal.returns-in_default-way
+returns-in_default-way c =
     let a = c.args in
     let m = a.m.now in
     let sized = sized_passed _ _ _ _ _ _ c.guard.ensures c.in_default.is in
     let said = c.refused.ensures in
     guard_passes m _ _ _ a.made _ _ c.guard.ensures _ _ _ _ _ c.in_default.is
-    (routes_none m a.face a.bare.now a.name.now a.i _ _ _ _ c.is_local-local.ensures
-    c.longest-best.ensures c.eligible-may.ensures c.cheapest-to.ensures a.made _ _ _ _ c.if-to-eq0.true
+    (routes_none m a.face a.bare.now a.name.now a.i _ _ _ c.is_local-local.ensures
+    c.eligible-may.ensures c.way.ensures a.made _ _ _ _ c.in_default-way.is
     (refused_goes m a.made _ _ a.face a.name.now a.i _ _ _ _ _ _ sized.short sized.roomy said.answers said.packs))
 
 pub open-requires : goal.open-requires
 open-requires c = record {
   sized = sized_passed _ _ _ _ _ _ c.guard.ensures c.in_default.is;
-  has_room = row_free (view c.args.m.now.pending) c.class_of-class.result _ c.has_room.ensures c.if-has_room.true;
+  has_room = row_free (view c.args.m.now.pending) c.in-Some.class _ c.has_room.ensures c.if-has_room.true;
 }
 
 pub returns-then-has_room : goal.returns-then-has_room
 returns-then-has_room c =
     let a = c.args in
     guard_passes a.m.now _ _ _ a.made _ _ c.guard.ensures _ _ _ _ _ c.in_default.is
-    (routes_room a.m.now a.face a.bare.now a.name.now a.i _ _ _ _ c.is_local-local.ensures
-    c.longest-best.ensures c.eligible-may.ensures c.cheapest-to.ensures a.made _ _ _ _ _ c.class_of-class.ensures c.if-to-eq0.false
-    _ c.has_room.ensures c.if-has_room.true c.open.ensures)
+    (routes_room a.m.now a.face a.bare.now a.name.now a.i _ _ _ c.is_local-local.ensures
+    c.eligible-may.ensures c.way.ensures a.made _ _ _ _ _ _ c.in-Some.is _ c.has_room.ensures c.if-has_room.true c.open.ensures)
 
 pub returns-else-has_room : goal.returns-else-has_room
 returns-else-has_room c =
@@ -42,7 +41,6 @@ returns-else-has_room c =
     let sized = sized_passed _ _ _ _ _ _ c.guard.ensures c.in_default.is in
     let said = c.refused-else-has_room.ensures in
     guard_passes m _ _ _ a.made _ _ c.guard.ensures _ _ _ _ _ c.in_default.is
-    (routes_full m a.face a.bare.now a.name.now a.i _ _ _ _ c.is_local-local.ensures
-    c.longest-best.ensures c.eligible-may.ensures c.cheapest-to.ensures a.made _ _ _ _ _ c.class_of-class.ensures
-    c.if-to-eq0.false _ c.has_room.ensures c.if-has_room.false
+    (routes_full m a.face a.bare.now a.name.now a.i _ _ _ c.is_local-local.ensures
+    c.eligible-may.ensures c.way.ensures a.made _ _ _ _ _ _ c.in-Some.is _ c.has_room.ensures c.if-has_room.false
     (refused_goes m a.made _ _ a.face a.name.now a.i _ _ _ _ _ _ sized.short sized.roomy said.answers said.packs))

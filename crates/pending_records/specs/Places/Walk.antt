@@ -1,11 +1,11 @@
 -- What the walks over an entry's records have so far, and what is left, as the code has it.
 -- Assumes nothing.
 use Rattle.std.specs.declared.option.Option as code
-use Rattle.std.specs.Prelude.{ℕ, ◌-◌, max, Bool, not, List, [], map, get_or, ltb, eqb, None, Some}
+use Rattle.std.specs.Prelude.{ℕ, ◌-◌, max, Bool, not, List, [], map, get_or, ltb, None, Some}
 use Rattle.std.proofs.Math.Option.{Option, none, some}
 use Rattle.laws.specs.Lists.{any_of}
 use Rattle.laws.specs.Pick.{pick}
-use Rattle.records.specs.Slots.{Held, held, less_by}
+use Rattle.records.specs.Slots.{Held, held}
 use Rattle.records.specs.Entry.{Request, Sent, was_nacked, lesser_reason, smallest_reason}
 use Rattle.records.specs.Line.{Line}
 use Rattle.faces.specs.Slots.{slots_of}
@@ -46,19 +46,6 @@ newer_of (some t) o = newer t o
 -- the time of an out-record that is held
 abbrev pub time_of : Held Sent → ℕ
 time_of h = h.what.time
-
--- how a running least goes on: nothing so far, or the least so far
-unfoldable pub less_of : {A : Type 0} → (Held A → ℕ) → Option (Held A) → Option (Held A) → Option (Held A)
-less_of by none o = o
-less_of by (some h) o = less_by by h o
-
--- the out-record of a face, 0 being none
-unfoldable pub best_of : List (List ℕ) → ℕ → Option (Held Sent)
-best_of recs f = pick (eqb f 0) none (some (record { face = f; what = sent_at recs (f - 1) }))
-
--- the face with the earlier out-record of two, the first where they are of one time; a first that is 0 is none
-unfoldable pub earlier_face : List (List ℕ) → ℕ → ℕ → ℕ
-earlier_face recs best f = pick (eqb best 0) f (pick (ltb (sent_at recs (f - 1)).time (sent_at recs (best - 1)).time) f best)
 
 -- the smallest of a reason and of those held, where all are Nacked
 unfoldable pub nacks_from : ℕ → List (Held Sent) → Option ℕ

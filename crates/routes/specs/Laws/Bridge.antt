@@ -86,7 +86,7 @@ module _ {A : Type 0} (by : Held A → ℕ) where
       let rest : Low f (least_by by (only p (held_from (suc f) l))) = (λ h e. omega (arith, low_least p (suc f) l h e)) in
       pick_ind (λ (k : List (Held A)). Low f (least_by by k)) (p x) _ _ (λ _. low_less f x _ (omega arith) rest) (λ _. rest)
 
--- the answer 0 says that there is no such hop, and any other is the hop's face
+-- a number that is the hop, or 0 where there is none: 0 says that there is none, any other is the hop's face
 pub cheapest_said : (p : ℕ → Bool) (o : Option Route) (f : ℕ) → f ≡ given 0 (λ g. g) (given none (cheapest_of p) o)
     → given none (cheapest_of p) o ≡ pick (eqb f 0) none (some f)
 unfolding given cheapest_of least_face held pick

@@ -11,14 +11,13 @@ use Rattle.std.proofs.Math.ListN.{get_or}
 use Rattle.laws.specs.Pick.{pick}
 use Rattle.laws.specs.Places.Tab.{tab}
 use Rattle.laws.specs.Digits.{member}
-use Rattle.faces.specs.Set.{has_face, with_face, minus_face, faces_where, lowest_face}
+use Rattle.faces.specs.Set.{has_face, with_face, minus_face, faces_where}
 use Rattle.faces.specs.Laws.Set.{where_mod, where_has, has_after}
 use Rattle.records.specs.Laws.Face.{face_yes}
 use Rattle.faces.specs.Slots.{slots_of}
-use Rattle.faces.specs.Laws.Slot.{slots_put, slots_minus, slots_past, slots_has, slots_set, held_more, held_end}
+use Rattle.faces.specs.Laws.Slot.{slots_put, slots_minus, slots_past, slots_has, slots_set}
 use Rattle.records.specs.Face.{is_face}
-use Rattle.records.specs.Slots.{Held, given, slot, is_some, held, held_from, only, less_by, least_by, least_face}
-use Rattle.records.specs.Laws.Least.{less_next, less_stays}
+use Rattle.records.specs.Slots.{given, slot, is_some, held, held_from, only, least_face}
 use Rattle.records.specs.Route.{with_hop, cheapest_of}
 use Rattle.routes.specs.declared.Row.{Row}
 use Rattle.routes.specs.Places.View.{route_row}
@@ -53,40 +52,6 @@ pub row_hops : (n : ℕ) (r : Row) → hops_of n (route_row n r) ≡ faces_where
 unfolding route_row hops_of
 row_hops n r = slots_set n r.hops (λ i. get_or r.costs i 0) ∙ sym (where_mod n r.hops)
 
--- the least for all faces is that of the best so far and those left
-pub record Least (n : ℕ) (g : ℕ → ℕ) (all left best cost : ℕ) : Type 0 where
-  pub same : least_of n g all ≡ less_by (λ h. h.what) (record { face = best; what = cost }) (least_of n g left)
-
-module _ (n : ℕ) (w : n ≤ 64) (g : ℕ → ℕ) (left f : ℕ) (low : f ≡ lowest_face n left) where
-  -- where a face is left, the least is that of it and the others
-  least_more : f ≤ n
-      → least_of n g left ≡ less_by (λ h. h.what) (record { face = f; what = g (f - 1) }) (least_of n g (minus_face n left f))
-  unfolding least_of least_by
-  least_more h = rw low (rw (held_more n left g w (omega arith)))
-
-  -- where none is left there is no least
-  pub least_none : n < f → least_of n g left ≡ none
-  unfolding least_of least_by
-  least_none h = rw (held_end n left g w (omega arith))
-
-  -- the first face is the best so far
-  pub least_first : f ≤ n → Least n g left (minus_face n left f) f (g (f - 1))
-  least_first h = record { same = least_more h }
-
-  module _ (all best cost : ℕ) (b : Least n g all left best cost) where
-    -- a face of a lower cost is the best so far
-    pub least_lower : f ≤ n → g (f - 1) < cost → Least n g all (minus_face n left f) f (g (f - 1))
-    least_lower h l = record { same = b.same ∙ rw (least_more h) (less_next (λ h. h.what) _ _ (least_of n g (minus_face n left f)) l) }
-
-    -- a face of the same cost or a higher one is not
-    pub least_stays : f ≤ n → cost ≤ g (f - 1) → Least n g all (minus_face n left f) best cost
-    least_stays h l = record { same = b.same ∙ rw (least_more h) (less_stays (λ h. h.what) _ _ (least_of n g (minus_face n left f)) l) }
-
-    -- where none is left the best so far is the least
-    pub least_end : n < f → best ≡ given 0 (λ h. h.face) (least_of n g all)
-    unfolding less_by given
-    least_end h = rw (b.same, least_none h)
-
 module _ (g : ℕ → ℕ) (s t : ℕ) (q : ℕ → Bool) where
   -- those held that q holds of, from place i on, are held by the set of them
   only_from : (i m : ℕ) → ((k : ℕ) → i ≤ k → k < i + m → member k t ≡ member k s && q (suc k))
@@ -107,21 +72,14 @@ module _ (g : ℕ → ℕ) (s t : ℕ) (q : ℕ → Bool) where
       go true false l k f r = rw (f, r)
       go false b l k f r = r
 
--- the face of what is held, if something is
-face_given : (o : Option (Held ℕ)) → given 0 (λ f. f) (given none (λ h. some h.face) o) ≡ given 0 (λ h. h.face) o
-unfolding given
-face_given none = refl
-face_given (some h) = refl
-
 -- the cheapest hop in a set is the least of the faces in both sets
 pub row_cheapest : (n set : ℕ) (r : Row)
-    → given 0 (λ f. f) (cheapest_of (has_face n set) (route_row n r))
-    ≡ given 0 (λ h. h.face) (least_of n (λ i. get_or r.costs i 0) (faces_where n (λ f. has_face n r.hops f && has_face n set f)))
+    → cheapest_of (has_face n set) (route_row n r)
+    ≡ given none (λ h. some h.face) (least_of n (λ i. get_or r.costs i 0) (faces_where n (λ f. has_face n r.hops f && has_face n set f)))
 unfolding cheapest_of least_face route_row least_of held slots_of
 row_cheapest n set r =
     let both : (ℕ → Bool) = (λ f. has_face n r.hops f && has_face n set f) in
-    face_given _
-    ∙ rw (only_from (λ i. get_or r.costs i 0) r.hops (faces_where n both) (has_face n set) 0 n
+    rw (only_from (λ i. get_or r.costs i 0) r.hops (faces_where n both) (has_face n set) 0 n
     (λ k _ l.
     sym (has_after n (faces_where n both) k (omega arith))
     ∙ where_has n (k + 1) both ((face_yes n (k + 1)).1 (omega arith, omega arith))

@@ -1,8 +1,9 @@
 -- The longest matching route, and a search for it from the last route down.
 -- Assumes nothing.
-use Rattle.std.specs.Prelude.{ℕ, zero, suc, ◌+◌, ◌-◌, ◌≤◌, ◌<◌, ◌≡◌, Bool, ◌&&◌, not, List, [], ◌∷◌, length, drop, ltb}
+use Rattle.std.specs.Prelude.{ℕ, zero, suc, ◌+◌, ◌-◌, ◌≤◌, ◌<◌, ◌≡◌, Bool, ◌&&◌, not, List, [], ◌∷◌, length, drop, ltb, MatchOption, Some, None}
+use Rattle.std.specs.declared.option.Option as code
 use Rattle.std.proofs.Math.Path.{refl}
-use Rattle.std.proofs.Common.{sym, arith}
+use Rattle.std.proofs.Common.{sym, arith, ◌∙◌}
 use Rattle.std.proofs.Math.Bool.{true, false, and-false}
 use Rattle.std.proofs.Math.Option.{Option, none, some}
 use Rattle.std.proofs.Math.Dec.{leb}
@@ -11,7 +12,10 @@ use Rattle.laws.specs.Pick.{pick}
 use Rattle.names.specs.Name.{prefix_of}
 use Rattle.records.specs.Slots.{given, at_place}
 use Rattle.records.specs.Route.{Route, longer, longest}
-use Rattle.routes.specs.Places.Longest.{reach}
+use Rattle.routes.specs.Places.Longest.{reach, place_or}
+use Rattle.routes.specs.declared.Routes.{Routes}
+use Rattle.routes.specs.declared.Handle.{Handle}
+use Rattle.routes.specs.Places.View.{view, placed, place_is}
 use Rattle.routes.specs.Operations.{is_longest, longest_at}
 
 -- a route is the longest where what was found after it reaches no further
@@ -112,3 +116,14 @@ module _ (name : List ℕ) (all : List Route) (i best most : ℕ) (r : Route) (q
   -- a route that does not match
   pub best_apart : prefix_of q name ≡ false → Best name all (i - 1) best most
   best_apart m = best_other (rw m)
+
+-- what a search down to the first route has found, as code gives it
+pub best_found : (t : Routes) (name : List ℕ) (i n most : ℕ) (o : code.Option Handle)
+    → Best name (view t) i (place_or n o) most → i ≤ 0 → n ≡ length (view t) → MatchOption o (Unit {0}) (λ h. h.at < n)
+    → MatchOption o (longest_at name (view t) ≡ length (view t))
+    (λ h. (placed t h ≡ longest_at name (view t)) × (placed t h < length (view t)))
+unfolding place_or
+best_found t name i n most None b z e m = omega (arith, best_all name (view t) i n most b z, e)
+best_found t name i n most (Some h) b z e m =
+    let p = place_is t h in
+    (p ∙ best_all name (view t) i h.at most b z, omega (arith, p, m, e))

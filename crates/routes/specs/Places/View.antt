@@ -2,7 +2,8 @@
 -- their laws stand here.
 -- Assumes nothing.
 use Prim.Native.Nat.{ℕ, ◌+◌, ◌-◌, ◌≤◌, ◌<◌, min}
-use Rattle.std.specs.Prelude.{◌≡◌, Bool, ◌≢◌, set, take, drop, ltb}
+use Rattle.std.specs.Prelude.{◌≡◌, Bool, ◌≢◌, set, take, drop, ltb, MatchOption, Some, None}
+use Rattle.std.specs.declared.option.Option as code
 use Rattle.std.proofs.Math.Path.{refl, sym, ap}
 use Rattle.std.proofs.Common.{◌∙◌, drop_of_length-le, drop-cons, lt-ltb, le-ltb, map}
 use Rattle.std.proofs.lemmas.List.{get_or-take, length-take}
@@ -67,6 +68,11 @@ place t h = h.at
 abbrev pub placed : Routes → Handle → ℕ
 placed = place
 
+-- the place that code found, if it found one
+pub place_in : Routes → code.Option Handle → Option ℕ
+place_in t None = none
+place_in t (Some h) = some (placed t h)
+
 -- the route that a handle stands for, if there is one
 abbrev pub found : Routes → Handle → Option Route
 found t h = at_place (placed t h) (view t)
@@ -95,6 +101,22 @@ module _ (t : Routes) where
   pub place_one : (h k : Handle) → place t h ≡ place t k → h ≡ k
   unfolding place
   place_one h k e = ap (λ (i : ℕ). record { at = i }) e
+
+-- what was found is one place, or none
+pub place_found : (t : Routes) (i : ℕ) (o : code.Option Handle)
+    → MatchOption o (i ≡ length (view t)) (λ h. (placed t h ≡ i) × (placed t h < length (view t)))
+    → place_in t o ≡ pick (ltb i (length (view t))) (some i) none
+unfolding place_in
+place_found t i None e = sym (pick_no _ _ _ (le-ltb i (length (view t)) (omega (arith, e))))
+place_found t i (Some h) e = ap some (e.0) ∙ sym (pick_yes _ _ _ (lt-ltb i (length (view t)) (omega (arith, e.0, e.1))))
+
+-- two that were found at one place are one
+pub found_one : (t : Routes) (x y : code.Option Handle) → place_in t x ≡ place_in t y → x ≡ y
+unfolding place_in
+found_one t None None e = refl
+found_one t None (Some k) e = absurd (none-ne-some _ e)
+found_one t (Some h) None e = absurd (none-ne-some _ (sym e))
+found_one t (Some h) (Some k) e = ap (λ (j : Handle). Some j) (place_one t h k (some-injective _ _ e))
 
 module _ (n : ℕ) (t : Routes) where
   -- there are as many routes as are counted, at most most_routes

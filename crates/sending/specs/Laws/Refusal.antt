@@ -1,9 +1,9 @@
 -- The Nack of a refusal: its class, and that it is the Nack of the rules.
 -- Assumes nothing.
-use Rattle.std.specs.Prelude.{ℕ, ◌≤◌, ◌≡◌, Bool, List, [], ◌∷◌, length}
+use Rattle.std.specs.Prelude.{ℕ, ◌≤◌, ◌<◌, ◌≡◌, Bool, List, [], ◌∷◌, length, ltb}
 use Rattle.std.proofs.Math.Path.{refl}
 use Rattle.std.proofs.Math.Bool.{true, false}
-use Rattle.std.proofs.Common.{true≢false, arith}
+use Rattle.std.proofs.Common.{true≢false, arith, lt-ltb, le-ltb, ◌∙◌}
 use Rattle.std.proofs.lemmas.Bool.{false≢true}
 use Rattle.std.proofs.Math.Option.{Option, none, some}
 use Rattle.laws.specs.Pick.{pick}
@@ -18,7 +18,7 @@ use Rattle.routes.specs.declared.Routes.{Routes}
 use Rattle.routes.specs.Places.View.{view}
 use Rattle.routes.specs.Operations.{longest_at, class_word}
 use Rattle.routes.specs.Laws.Longest.{longest_place}
-use Rattle.routes.specs.Laws.Bridge.{longest_class}
+use Rattle.routes.specs.Laws.Bridge.{longest_class, there_less}
 use Rattle.rules.specs.Node.{Node}
 use Rattle.rules.specs.Outcome.{nack, route_class, name_class, nacks_to}
 use Rattle.writing.specs.Written.{nack_bytes}
@@ -28,25 +28,26 @@ use Rattle.writing.specs.Most.{most_nack}
 use Rattle.sending.specs.Places.Sheet.{nack_sends}
 use Rattle.sending.specs.Laws.One.{room_yes, room_none, packs_none}
 
-module _ (name : List ℕ) (rs : List Route) (i : ℕ) (e : i ≡ longest_at name rs) where
-  -- the route that was found is the longest
-  found_longest : at_place i rs ≡ longest name rs
-  found_longest = rw e (longest_place name rs)
+module _ (name : List ℕ) (rs : List Route) where
+  -- a route is found exactly where there is a longest
+  found_longest : is_some (longest name rs) ≡ ltb (longest_at name rs) (length rs)
+  found_longest = rw (← (longest_place name rs)) (there_less (longest_at name rs) rs)
 
   -- where a route is found its class word is that of the longest
-  pub class_in : (w : ℕ) → is_some (at_place i rs) ≡ true → w ≡ given 0 class_word (at_place i rs)
+  pub class_in : (i : ℕ) → i ≡ longest_at name rs → i < length rs → (w : ℕ) → w ≡ given 0 class_word (at_place i rs)
       → w ≡ class_number (route_class (longest name rs))
   unfolding is_some given class_word route_class
-  class_in w t q = go (longest name rs) (rw found_longest at t) (rw found_longest at q)
+  class_in i e h w q =
+      go (longest name rs) (found_longest ∙ lt-ltb _ _ (omega (arith, h, e))) (rw (e, longest_place name rs) at q)
     where
       go : (o : Option Route) → is_some o ≡ true → w ≡ given 0 class_word o → w ≡ class_number (route_class o)
       go none t q = absurd (false≢true t)
       go (some r) t q = q
 
   -- where none is found the class is bulk
-  pub class_none : is_some (at_place i rs) ≡ false → class_number bulk ≡ class_number (route_class (longest name rs))
+  pub class_none : longest_at name rs ≡ length rs → class_number bulk ≡ class_number (route_class (longest name rs))
   unfolding is_some route_class
-  class_none t = go (longest name rs) (rw found_longest at t)
+  class_none t = go (longest name rs) (found_longest ∙ le-ltb _ _ (omega (arith, t)))
     where
       go : (o : Option Route) → is_some o ≡ false → class_number bulk ≡ class_number (route_class o)
       go none t = refl

@@ -1,15 +1,22 @@
 -- What the events need of the store: what a lookup takes stands at the place that it says, what its answer means, and a Data that fits.
 -- Assumes nothing.
-use Rattle.std.specs.Prelude.{ℕ, ◌≤◌, ◌≡◌, Bool, true, false, List}
+use Rattle.std.specs.Prelude.{ℕ, ◌≤◌, ◌≡◌, Bool, List}
+use Rattle.std.specs.declared.option.Option as code
+use Rattle.std.specs.Option.{MatchOption, IsSomeAnd, option_map}
+use Rattle.std.proofs.lemmas.Option.{MatchOption-at_some, MatchOption-at_none, none-some, same_Some}
 use Rattle.std.proofs.Math.Path.{refl, sym, ap}
-use Rattle.std.proofs.Common.{◌∙◌, true≢false, arith, le-leb}
-use Rattle.std.proofs.Math.Option.{Option, none, some}
+use Rattle.std.proofs.Common.{◌∙◌, arith, le-leb}
+use Rattle.std.proofs.Math.Option.{Option, none, some, none-ne-some, some-injective}
 use Rattle.std.proofs.Math.ListN.{length}
 use Rattle.sizes.specs.Sizes.{most_packet, most_stored}
 use Rattle.laws.specs.Laws.Pick.{pick_yes}
-use Rattle.records.specs.Slots.{given, is_some, at_place}
+use Rattle.records.specs.Slots.{given, at_place}
 use Rattle.records.specs.Stored.{Stored, Hit, stored, lookup, touched}
-use Rattle.store.specs.Operations.{fits_row, kept, recent}
+use Rattle.store.specs.declared.Store.{Store}
+use Rattle.store.specs.declared.Handle.{Handle}
+use Rattle.store.specs.Operations.{fits_row, kept, recent, Took, Looks, place_or}
+use Rattle.store.specs.Places.View.{view, placed, place_is, place_one}
+use Rattle.store.specs.Places.Look.{hit, hit_at}
 use Rattle.records.specs.Laws.Place.{place_past}
 use Rattle.records.specs.Laws.Lookup.{lookup_takes}
 
@@ -23,40 +30,61 @@ module _ (now : ℕ) (name : List ℕ) (p m : Bool) (ds : List Stored) (h : Hit)
   unfolding recent touched given
   recent_hit = rw hit_at_lem
 
--- an option that holds a hit at a place
-pub record Took (o : Option Hit) (i : ℕ) : Type 0 where
-  pub hit : Hit
-  pub took : o ≡ some hit
-  pub at : hit.place ≡ i
+-- a handle of the place where a search of the rows found what a lookup takes, if it found it, is a lookup's answer
+pub looks_at : (now : ℕ) (name : List ℕ) (p m : Bool) (s : Store) (made : ℕ → Handle → Type 0) (best : code.Option ℕ)
+    (r : code.Option Handle) → lookup now name p m (view s) ≡ hit_at s.rows best → ((i : ℕ) (h : Handle) → made i h → h.at ≡ i)
+    → MatchOption best (r ≡ code.Option.None) (λ i. IsSomeAnd r (made i))
+    → Looks r (placed s) (view s) (lookup now name p m (view s))
+unfolding hit_at hit
+looks_at now name p m s made code.Option.None r e f q = rw q e
+looks_at now name p m s made (code.Option.Some i) code.Option.None e f q = absurd q
+looks_at now name p m s made (code.Option.Some i) (code.Option.Some h) e f q =
+    let at : placed s h ≡ i = place_is s h ∙ f i h q in
+    record { hit = hit s.rows i; took = e; at = sym at; there = rw at (hit_at_lem now name p m (view s) (hit s.rows i) e) }
 
-module _ (now : ℕ) (name : List ℕ) (p m : Bool) (ds : List Stored) (i : ℕ)
-    (e : i ≡ given (length ds) (λ h. h.place) (lookup now name p m ds)) where
-  -- at the place that a lookup answers stands what it takes, and nothing where it takes none
-  pub look_found : at_place i ds ≡ given none (λ h. some h.what) (lookup now name p m ds)
+module _ (ds : List Stored) (o : Option Hit) (place : Handle → ℕ) (r : code.Option Handle) (e : Looks r place ds o) where
+  -- a lookup answers the place of what it takes, and none where it takes none
+  pub look_place : place_or (length ds) place r ≡ given (length ds) (λ h. h.place) o
   unfolding given
-  look_found = go (lookup now name p m ds) refl
+  look_place = go r e
     where
-      go : (o : Option Hit) → lookup now name p m ds ≡ o → at_place i ds ≡ given none (λ h. some h.what) o
-      go none q = let f : i ≡ length ds = rw q at e in place_past ds i (omega arith)
-      go (some h) q = let f : i ≡ h.place = rw q at e in rw f (hit_at_lem now name p m ds h q)
+      go : (r : code.Option Handle) → Looks r place ds o → place_or (length ds) place r ≡ given (length ds) (λ h. h.place) o
+      go code.Option.None q = rw q
+      go (code.Option.Some h) q = rw q.took (sym q.at)
 
-  -- where the answer stands for a Data, that is the place of a hit
-  pub look_some : is_some (at_place i ds) ≡ true → Took (lookup now name p m ds) i
-  unfolding given is_some
-  look_some t = go (lookup now name p m ds) refl
+  -- at the place that a lookup answers stands what it takes, and nothing where it takes none
+  pub look_found : at_place (place_or (length ds) place r) ds ≡ given none (λ h. some h.what) o
+  unfolding given
+  look_found = go r e
     where
-      go : (o : Option Hit) → lookup now name p m ds ≡ o → Took (lookup now name p m ds) i
-      go none q = absurd (true≢false (sym t ∙ ap is_some look_found ∙ rw q))
-      go (some h) q = let f : i ≡ h.place = rw q at e in record { hit = h; took = q; at = sym f }
+      go : (r : code.Option Handle) → Looks r place ds o → at_place (place_or (length ds) place r) ds ≡ given none (λ h. some h.what) o
+      go code.Option.None q = rw q (place_past ds (length ds) (omega arith))
+      go (code.Option.Some h) q = rw q.took q.there
 
-  -- where it stands for none, a lookup takes none
-  pub look_none : is_some (at_place i ds) ≡ false → lookup now name p m ds ≡ none
-  unfolding given is_some
-  look_none t = go (lookup now name p m ds) refl
-    where
-      go : (o : Option Hit) → lookup now name p m ds ≡ o → o ≡ none
-      go none q = refl
-      go (some h) q = absurd (true≢false (sym (ap is_some look_found ∙ rw q) ∙ t))
+  -- where it answers a handle, that stands for the Data that it takes
+  pub look_some : (h : Handle) → r ≡ code.Option.Some h → Took ds o (place h)
+  look_some h q = MatchOption-at_some (o ≡ none) (λ h. Took ds o (place h)) h q e
+
+  -- where it answers none, it takes none
+  pub look_none : r ≡ code.Option.None → o ≡ none
+  look_none q = MatchOption-at_none (o ≡ none) (λ h. Took ds o (place h)) q e
+
+-- two answers of a lookup are both none, or say one place
+pub looks_same : (ds : List Stored) (o : Option Hit) (place other : Handle → ℕ) (r q : code.Option Handle) → Looks r place ds o
+    → Looks q other ds o → option_map place r ≡ option_map other q
+looks_same ds o place other code.Option.None code.Option.None a b = refl
+looks_same ds o place other code.Option.None (code.Option.Some k) a b = absurd (none-ne-some b.hit (sym a ∙ b.took))
+looks_same ds o place other (code.Option.Some h) code.Option.None a b = absurd (none-ne-some a.hit (sym b ∙ a.took))
+looks_same ds o place other (code.Option.Some h) (code.Option.Some k) a b =
+    let hits : a.hit ≡ b.hit = some-injective _ _ (sym a.took ∙ b.took) in
+    ap (λ (i : ℕ). code.Option.Some i) (sym a.at ∙ ap (λ (x : Hit). x.place) hits ∙ b.at)
+
+-- answers of one store that are both none, or say one place, are one answer
+pub looks_one : (s : Store) (r q : code.Option Handle) → option_map (placed s) r ≡ option_map (placed s) q → r ≡ q
+looks_one s code.Option.None code.Option.None e = refl
+looks_one s code.Option.None (code.Option.Some k) e = absurd (none-some _ e)
+looks_one s (code.Option.Some h) code.Option.None e = absurd (none-some _ (sym e))
+looks_one s (code.Option.Some h) (code.Option.Some k) e = ap (λ (x : Handle). code.Option.Some x) (place_one s h k (same_Some _ _ e))
 
 -- a Data of a packet's size is stored as the rules store it
 pub kept_fits : (d : Stored) (ds : List Stored) → length d.bytes ≤ most_packet → kept d ds ≡ stored most_stored d ds

@@ -1,19 +1,23 @@
--- By whether there is a hop without an out-record.
+-- By whether there is a route, and then a hop without an out-record.
 use Rattle.sizes.specs.Sizes.{most_faces}
+use Rattle.faces.specs.Found.{face_in}
 use Rattle.pending_table.specs.Places.View.{view_wide}
-use Rattle.ways.specs.Laws.Next.{chosen_first, chosen_last}
+use Rattle.ways.specs.Laws.Next.{chosen_not, chosen_first, chosen_last}
 use Rattle.ways.proofs.choose.Goals as goal
 
-pub returns-then-first-ne0 : goal.returns-then-first-ne0
-returns-then-first-ne0 c =
-    λ p y.
-    chosen_first most_faces p _ y _ _ _ _ _ c.longest-route.ensures _ c.unsent-unsent.ensures
-    c.cheapest-first.ensures c.if-first-ne0.true
+pub returns-in_err-route : goal.returns-in_err-route
+unfolding face_in
+returns-in_err-route c = λ p y. rw c.from_residual.ensures (chosen_not most_faces p _ y _ _ _ c.in_err-route.ensures)
 
-pub returns-else-first-ne0 : goal.returns-else-first-ne0
-returns-else-first-ne0 c =
+pub returns-in-Some : goal.returns-in-Some
+unfolding face_in
+returns-in-Some c =
     λ p y.
-    chosen_last most_faces p _ y _ _ _ _ _ c.longest-route.ensures _
-    c.unsent-unsent.ensures c.cheapest-first.ensures _ _ _
-    (λ e z. (view_wide most_faces _ _ _ _ _ _ e z).1) c.if-first-ne0.false c.hops_of-hops.ensures
-    c.common.ensures c.earliest.ensures
+    chosen_first most_faces p _ y _ _ _ _ c.in_ok-route.ensures.0 _ _ c.unsent-unsent.ensures c.in-Some.ensures
+
+pub returns-in-None : goal.returns-in-None
+unfolding face_in
+returns-in-None c =
+    λ p y.
+    chosen_last most_faces p _ y _ _ _ _ c.in_ok-route.ensures.0 _ c.unsent-unsent.ensures c.in-None.ensures _ _ _
+    (λ e z. (view_wide most_faces _ _ _ _ _ _ e z).1) c.hops_of-hops.ensures c.common.ensures c.earliest.ensures

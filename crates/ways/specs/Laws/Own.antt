@@ -36,10 +36,10 @@ loops_own t fs es ls f name k i r h n a x p d y w z v =
     h n a x d y w z ∙ ap (loops_by fnv_start t n a) same ∙ loops_by_lem t n a
 
 -- an answer by an entry or none is the rules' where there is the entry
-pub next_hop_own : (t : ℕ) (fs : List (Option Face)) (rs : List Route) (f : ℕ) (name : List ℕ) (hop : Option ℕ) (o : Option Entry) (r : ℕ)
+pub next_hop_own : (t : ℕ) (fs : List (Option Face)) (rs : List Route) (f : ℕ) (name : List ℕ) (hop : Option ℕ) (o : Option Entry) (r : Option ℕ)
     → ((n : Node) (a : Arrival) → n.faces ≡ fs → n.routes ≡ rs → a.face ≡ f → a.ask.name ≡ name → a.ask.hop ≡ hop
-    → r ≡ given 0 (λ g. g) (resends_by t n a o))
+    → r ≡ resends_by t n a o)
     → (n : Node) (a : Arrival) (e : Entry) → n.faces ≡ fs → n.routes ≡ rs → a.face ≡ f → a.ask.name ≡ name → a.ask.hop ≡ hop
-    → o ≡ some e → r ≡ given 0 (λ g. g) (resends t n a e)
+    → o ≡ some e → r ≡ resends t n a e
 next_hop_own t fs rs f name hop o r h n a e x u y v z w =
-    h n a x u y v z ∙ ap (given 0 (λ g. g)) (ap (resends_by t n a) w ∙ resends_by_lem t n a e)
+    h n a x u y v z ∙ ap (resends_by t n a) w ∙ resends_by_lem t n a e

@@ -3,32 +3,42 @@ use native.Mathlib.Omega.{arith}
 use mathlib.Core.Path.{sym, ◌∙◌}
 use Prim.Native.Nat.{◌-◌}
 use Rattle.sizes.specs.Sizes.{most_faces}
-use Rattle.routes.specs.Places.View.{route_at, place_is, view_drop, view_end}
-use Rattle.routes.specs.Laws.Longest.{best_none, best_all, best_here, best_short, best_apart}
+use Rattle.routes.specs.Places.View.{route_at, view_length, view_drop, view_end}
+use Rattle.routes.specs.Places.Longest.{place_or}
+use Rattle.routes.specs.Laws.Longest.{best_none, best_found, best_here, best_short, best_apart}
 use Rattle.routes.proofs.Routes.longest.Goals as goal
 use Rattle.routes.proofs.Routes.longest.Goals.{else-most-len-via-then-most-len+else-is_prefix, else-most-len-via-else-most-len}
 
 pub loop-i-init : goal.loop-i-init
-loop-i-init c = best_none _ _ _ (view_end most_faces c.args.self.now c.count-n.result (omega arith))
+unfolding place_or
+loop-i-init c = rw (← c.count-i.ensures) (best_none _ _ _ (view_end most_faces c.args.self.now c.count-i.result (omega arith)), tt)
 
 pub loop-i-preserved-then-is_prefix : goal.loop-i-preserved-then-is_prefix
-unfolding route_at
+unfolding route_at place_or
 loop-i-preserved-then-is_prefix c =
     let l = c.loop-i in
-    let here = view_drop most_faces c.args.self.now (l.i - 1) (omega arith) in
-    best_here _ _ _ _ _ _ _ (omega arith) here c.prefix-prefix.ensures l.invariant (omega arith)
-    (sym c.is_prefix.ensures ∙ c.if-is_prefix.true)
+    let here = view_drop most_faces c.args.self.now (l.i - 1) (omega arith) in (
+      best_here _ _ _ _ _ _ _ (omega arith) here c.prefix-prefix.ensures l.invariant.0 (omega arith)
+          (sym c.is_prefix.ensures ∙ c.if-is_prefix.true),
+      omega arith,
+    )
 
 pub loop-i-preserved : goal.loop-i-preserved
 unfolding route_at
 loop-i-preserved c =
     let l = c.loop-i in
-    let here = view_drop most_faces c.args.self.now (l.i - 1) (omega arith) in
-    elim c.else-most-len.branch [
-      | else-most-len-via-then-most-len+else-is_prefix w ↦ best_apart _ _ _ _ _ _ _ (omega arith) here c.prefix-prefix.ensures l.invariant
-          (sym w.is_prefix.ensures ∙ w.if-is_prefix.false)
-      | else-most-len-via-else-most-len w ↦ best_short _ _ _ _ _ _ _ (omega arith) here c.prefix-prefix.ensures l.invariant (omega arith)
-    ]
+    let here = view_drop most_faces c.args.self.now (l.i - 1) (omega arith) in (
+      elim c.else-most-len.branch [
+        | else-most-len-via-then-most-len+else-is_prefix w ↦
+            best_apart _ _ _ _ _ _ _ (omega arith) here c.prefix-prefix.ensures l.invariant.0
+            (sym w.is_prefix.ensures ∙ w.if-is_prefix.false)
+        | else-most-len-via-else-most-len w ↦
+            best_short _ _ _ _ _ _ _ (omega arith) here c.prefix-prefix.ensures l.invariant.0 (omega arith)
+      ],
+      l.invariant.1,
+    )
 
 pub returns : goal.returns
-returns c = place_is _ _ ∙ best_all _ _ _ _ _ c.loop-i.invariant (omega arith)
+returns c =
+    let l = c.loop-i in
+    best_found c.args.self.now _ _ _ _ _ l.invariant.0 (omega arith) (sym (view_length most_faces c.args.self.now)) l.invariant.1

@@ -1,7 +1,12 @@
 -- The loop's invariant: best and most are what a search of the routes from place i on finds.
+use Rattle.std.specs.Prelude.{min, MatchOption, ◌<◌}
+use Rattle.sizes.specs.Sizes.{most_routes}
 use Rattle.routes.specs.Places.View.{view}
+use Rattle.routes.specs.Places.Longest.{place_or}
 use Rattle.routes.specs.Laws.Longest.{Best}
 use Rattle.routes.proofs.Routes.longest.Given as goal
 
 abbrev pub invariant-loop-i : goal.invariant-loop-i
-invariant-loop-i l = Best l.name (view l.self) l.i l.best l.most
+invariant-loop-i l =
+    Best l.name (view l.self) l.i (place_or (min l.self.count most_routes) l.best) l.most
+    × MatchOption l.best (Unit {0}) (λ h. h.at < min l.self.count most_routes)

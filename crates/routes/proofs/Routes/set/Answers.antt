@@ -11,32 +11,43 @@ use Rattle.routes.proofs.Routes.set.Goals as goal
 use Rattle.routes.proofs.Routes.set.Goals.{else-prefix-le-NAME-via-then-prefix-le-NAME+else-self-lt-ROUTES}
 use Rattle.routes.proofs.Routes.set.Goals.{else-prefix-le-NAME-via-else-prefix-le-NAME}
 
-pub returns-then-known-self-clause-sets : goal.returns-then-known-self-clause-sets
+pub offset_bounds-self-route : goal.offset_bounds-self-route
+offset_bounds-self-route c =
+    let t = c.args.self.now in
+    omega (arith, c.in-Some.ensures.1, place_is t c.in-Some.route, view_length most_faces t)
+
+pub bounds-self-route : goal.bounds-self-route
+bounds-self-route c =
+    let t = c.args.self.now in
+    omega (arith, c.in-Some.ensures.1, place_is t c.in-Some.route, view_length most_faces t)
+
+pub returns-in-Some-clause-sets : goal.returns-in-Some-clause-sets
 unfolding route_at
-returns-then-known-self-clause-sets c =
+returns-in-Some-clause-sets c =
     let a = c.args in
     let t = a.self.now in
     let n = c.count-self in
-    let k = c.find-known in
+    let h = c.in-Some.route in
+    let (is, below) = c.in-Some.ensures in
     let all : length t.rows ≡ 32 = search rules in
     let len = view_length most_faces t in
-    let e = sym (place_is t k.result) ∙ k.ensures in
+    let p = place_is t h in
+    let e = sym p ∙ is in
     let cls = class_of a.class in
-    let changed = view_on most_faces t k.result.at _ (with_class cls) (omega arith) (row_class most_faces a.class _) in
+    let changed = view_on most_faces t h.at _ (with_class cls) (omega arith) (row_class most_faces a.class _) in
     set_known most_faces a.prefix.now cls _ _ _ refl (omega arith) (view_cut most_faces _ _ refl n.ensures ∙ rw (← e) changed)
 
-pub returns-then-known-self-clause-counted : goal.returns-then-known-self-clause-counted
-returns-then-known-self-clause-counted c = view_count most_faces _ (omega arith)
+pub returns-in-Some-clause-counted : goal.returns-in-Some-clause-counted
+returns-in-Some-clause-counted c = view_count most_faces _ (omega arith)
 
 pub returns-then-self-lt-ROUTES-clause-sets : goal.returns-then-self-lt-ROUTES-clause-sets
 returns-then-self-lt-ROUTES-clause-sets c =
     let a = c.args in
     let t = a.self.now in
     let n = c.count-self in
-    let k = c.find-known in
+    let none = c.in_default.ensures in
     let all : length t.rows ≡ 32 = search rules in
     let len = view_length most_faces t in
-    let e = sym (place_is t k.result) ∙ k.ensures in
     set_new most_faces a.prefix.now (class_of a.class) _ _ _ (omega arith) refl (omega arith) (omega arith)
     (view_snoc most_faces t _ _ n.result (sym n.ensures) (omega arith) (omega arith) c.start.ensures)
 
@@ -48,9 +59,8 @@ returns-else-prefix-le-NAME-clause-sets c =
     let a = c.args in
     let t = a.self.now in
     let n = c.count-self in
-    let k = c.find-known in
+    let none = c.in_default.ensures in
     let len = view_length most_faces t in
-    let e = sym (place_is t k.result) ∙ k.ensures in
     let same = view_cut most_faces t (record { rows = t.rows; count = n.result }) refl n.ensures in
     let cls = class_of a.class in
     elim c.else-prefix-le-NAME.branch [
