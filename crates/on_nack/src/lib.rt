@@ -154,7 +154,8 @@ fn take(
 ) -> Came
     requires name_fits { length name.now ≤ most_name }
     requires buffer_fits { least_buffer ≤ length out.old }
-    ensures { (a : Ask) → a.name ≡ name.now → a.can_be_prefix ≡ i.can_be_prefix → a.must_be_fresh ≡ i.must_be_fresh → a.nonce ≡ i.nonce
+    ensures { (a : Ask) → a.name ≡ name.now → a.can_be_prefix ≡ i.can_be_prefix → a.must_be_fresh ≡ i.must_be_fresh
+        → a.nonce ≡ i.nonce
         → After (λ n. nack_step n.time n face reason a) made result (lent m) (output (lent sends) (lent out) (lent rows)) }
 {
     if is_out_of_scope(m.faces, face, name) {

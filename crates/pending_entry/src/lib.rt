@@ -58,7 +58,8 @@ pub struct Asked {
 // The head of an entry without records.
 #[tactic(auto, using(crate::specs::Laws::Change::view_bare))]
 pub fn bare(len: u64, prefix: bool, fresh: bool, class: u64) -> Head
-    ensures { (nm : List ℕ) (t : List (List ℕ)) → view nm result t ≡ bare_entry most_faces (take len nm) prefix fresh (class_of class) }
+    ensures { (nm : List ℕ) (t : List (List ℕ)) → view nm result t
+        ≡ bare_entry most_faces (take len nm) prefix fresh (class_of class) }
 {
     [len, u64::from(prefix), u64::from(fresh), class, 0, 0]
 }
@@ -87,7 +88,8 @@ pub fn renew(head: &mut Head, recs: &mut Records, face: usize, nonce: u64, expir
 
 // Ends the requests of the faces of a set, all at once.
 pub fn end_requests(head: &mut Head, recs: &Records, set: u64)
-    ensures { (nm : List ℕ) → after nm (lent head) (shown recs) ≡ ending (has_face most_faces set) (before nm (lent head) (shown recs)) }
+    ensures { (nm : List ℕ) → after nm (lent head) (shown recs)
+        ≡ ending (has_face most_faces set) (before nm (lent head) (shown recs)) }
 {
     head[ASKING] = less(head[ASKING], set);
 }
@@ -95,7 +97,8 @@ pub fn end_requests(head: &mut Head, recs: &Records, set: u64)
 // "A send sets the out-record anew, its Nack reason cleared."
 #[tactic(auto, using(crate::specs::Laws::Write::face_within, crate::specs::Laws::Change::view_sending_none))]
 pub fn send(head: &mut Head, recs: &mut Records, face: usize, nonce: u64, time: u64)
-    ensures { (nm : List ℕ) → after nm (lent head) (lent recs) ≡ sending face (sent_with nonce time) (before nm (lent head) (lent recs)) }
+    ensures { (nm : List ℕ) → after nm (lent head) (lent recs)
+        ≡ sending face (sent_with nonce time) (before nm (lent head) (lent recs)) }
 {
     if is_face(face) {
         head[SENT] = add(head[SENT], face);

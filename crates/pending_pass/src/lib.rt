@@ -40,8 +40,8 @@ pub struct Satisfied {
 // A class word for each face, lent by the caller.
 pub type Classes = [u64; FACES];
 
-// One turn after another, at each of the chosen entries, the oldest opening first: how many happenings are noted. An iterator would hold the
-// table that each turn changes.
+// One turn after another, at each of the chosen entries, the oldest opening first: how many happenings are noted. An iterator would hold
+// the table that each turn changes.
 fn pass<F: Fn(&mut Pending, Handle, &mut Dead, &mut Rows, usize) -> usize>(
     p: &mut Pending,
     chosen: Chosen,

@@ -191,8 +191,8 @@ pub fn note_by_face(
     own: Fate,
     fate: Fate,
 ) -> usize
-    ensures { (nm : List ℕ) (t : ℕ) → Noted (lent rows) result at (noted_split most_faces set special own fate t (before nm (shown head)
-        (shown recs))) }
+    ensures { (nm : List ℕ) (t : ℕ) → Noted (lent rows) result at
+        (noted_split most_faces set special own fate t (before nm (shown head) (shown recs))) }
 {
     let mut next = at;
     for f in Walk::of(common(head[ASKING], set)) {
@@ -212,8 +212,8 @@ pub fn note_requests(
     set: u64,
     fate: Fate,
 ) -> usize
-    ensures { (nm : List ℕ) (t : ℕ) → Noted (lent rows) result at (noted (fate_in fate) t (has_face most_faces set) (before nm (shown head)
-        (shown recs))) }
+    ensures { (nm : List ℕ) (t : ℕ) → Noted (lent rows) result at
+        (noted (fate_in fate) t (has_face most_faces set) (before nm (shown head) (shown recs))) }
 {
     note_by_face(head, recs, rows, at, set, 0, fate, fate)
 }
@@ -228,7 +228,8 @@ pub fn note_face(
     face: usize,
     fate: Fate,
 ) -> usize
-    ensures { (nm : List ℕ) (t : ℕ) → Noted (lent rows) result at (noted_one (fate_in fate) t face (before nm (shown head) (shown recs))) }
+    ensures { (nm : List ℕ) (t : ℕ) → Noted (lent rows) result at
+        (noted_one (fate_in fate) t face (before nm (shown head) (shown recs))) }
 {
     if has(head[ASKING], face) {
         let row = &recs[face - 1];

@@ -4,7 +4,8 @@
 // among them and of marks.
 #![tactic(auto)]
 
-ghost use Rattle.std.specs.Prelude.{◌≡◌, true, false, List, [], ◌∷◌, ◌++◌, map, ℕ, ◌+◌, ◌<◌, ◌≤◌, length, leb, ltb, eqb, IfSome};
+ghost use Rattle.std.specs.Prelude.{◌≡◌, true, false, List, [], ◌∷◌, ◌++◌, map, ℕ, ◌+◌, ◌<◌, ◌≤◌};
+ghost use Rattle.std.specs.Prelude.{length, leb, ltb, eqb, IfSome};
 ghost use Rattle.std.specs.Bool.{beq};
 ghost use Rattle.laws.specs.Lists.{on_at, index_of};
 ghost use Rattle.sizes.specs.Sizes.{most_faces, most_entries};
@@ -295,7 +296,8 @@ impl Pending {
 
     // Whether there is room for one more entry of a class: the sum of the larger of reserve and use, counting it, does not exceed 64.
     pub fn has_room(&self, class: u64) -> bool
-        ensures { result ≡ leb (room_taken (view self.now ++ (bare_entry most_faces [] false false (class_of class) ∷ []))) most_entries }
+        ensures { result ≡ leb (room_taken (view self.now ++ (bare_entry most_faces [] false false (class_of class) ∷ [])))
+            most_entries }
     {
         self.use_by_class().counted(class).room_taken() <= ENTRIES as u64
     }

@@ -163,7 +163,8 @@ impl Store {
     // The place of the Data that gives way to a new one of a name: the equal name's, else, in a full store, that of the least recent. None
     // gives way to a new one of another name in a store that is not full.
     fn leaving(&self, name: &[u8]) -> Option<usize>
-        ensures { MatchOption result ((length (view self.now) < most_stored) × (leaver name.now (view self.now) ≡ length (view self.now)))
+        ensures { MatchOption result
+            ((length (view self.now) < most_stored) × (leaver name.now (view self.now) ≡ length (view self.now)))
             (λ i. (i < length (view self.now)) × (i ≡ leaver name.now (view self.now))) }
     {
         match self.find(name) {
