@@ -89,8 +89,8 @@ fn number(out: &mut impl Write, s: &[u8]) -> io::Result<()> {
     let Some((v, next)) = (Cursor { at: 0 }).number(s) else {
         return bad(out);
     };
-    let end = next.at;
-    write!(out, " {v} {end}")
+    word(out, v)?;
+    word(out, next.at as u64)
 }
 
 // 2: the element at the start.
