@@ -1,5 +1,6 @@
 -- One outcome for each input of each public function: any two that its contract admits are the same in everything that it speaks of, also
--- from two memories that mean the same node. Rows and bits that mean no part of the node are not fixed.
+-- from two memories that mean the same node. Rows and bits that mean no part of the node are fixed only where the contract says outright
+-- that they stay.
 -- Assumes nothing.
 use mathlib.Core.Path.{◌≡◌, refl}
 use contract.Lifetimes.{Lfts}
@@ -49,7 +50,7 @@ module _ (κs : Lfts 5) where
       (arrive_output a s).exit (arrive_output b t).exit
   arrive_same a b x y s t ek ew n o p q =
       after_same x y (arrive_memory a s) (arrive_memory b t) (arrive_output a s) (arrive_output b t) n o
-      (arrive_what a s) (arrive_what b t) _ _ ew ek p q
+      (arrive_what a s) (arrive_what b t) _ _ ew ek p.0 q.0
 
   -- two outcomes of what came in
   pub arrive_one : (a : Dens κs arrive-kinds.ps) (x y : (res_t arrive-kinds.r κs).Denot)

@@ -1,7 +1,7 @@
 // What came in on a face, past ageing: the guard, the reader of the bare packet, and the kind that it found.
 #![tactic(auto)]
 
-ghost use Rattle.std.specs.Prelude.{length};
+ghost use Rattle.std.specs.Prelude.{◌≡◌, length};
 ghost use Rattle.rows.specs.Lent.{lent};
 ghost use Rattle.event.specs.Memory.{output};
 ghost use Rattle.coming.specs.Goes.{After};
@@ -25,8 +25,9 @@ pub fn arrive(
     marked: bool,
     bare: &[u8],
 ) -> Came
-    ensures { After (comes_in (length out.old) nacked marked bare.now face) made result (lent m) (output (lent sends) (lent out)
+    ensures goes { After (comes_in (length out.old) nacked marked bare.now face) made result (lent m) (output (lent sends) (lent out)
         (lent rows)) }
+    ensures routes { m.new.routes ≡ m.old.routes }
 {
     // A name over its size is the reader's to refuse.
     if let Err(answer) = guard(m.time, out.len(), bare.len(), 0) {

@@ -27,7 +27,7 @@ new_one κs a b x y s t p q = (p.0 ∙ sym q.0, p.1 ∙ sym q.1)
 pub clear_one : (κs : Lfts 1) (a b : Dens κs clear-kinds.ps) (x y : (res_t clear-kinds.r κs).Denot)
     (s t : AtExit (ended_of 1 clear-kinds.ps clear-kinds.r) κs) → clear-reads.Post κs a x s → clear-reads.Post κs b y t
     → (view s.0.now ≡ view t.0.now) × (line_count s.0.now ≡ line_count t.0.now)
-clear_one κs a b x y s t p q = (p.0 ∙ sym q.0, p.1 ∙ sym q.1)
+clear_one κs a b x y s t p q = (p.0 ∙ sym q.0, p.1.0 ∙ sym q.1.0)
 
 -- two outcomes of a join have the same lines, and count as many
 pub join_one : (κs : Lfts 1) (a : Dens κs join-kinds.ps) (x y : (res_t join-kinds.r κs).Denot)

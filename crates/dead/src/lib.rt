@@ -5,6 +5,7 @@ ghost use Rattle.std.specs.Prelude.{◌≡◌, [], length};
 ghost use Rattle.sizes.specs.Sizes.{most_dead};
 ghost use Rattle.records.specs.Line.{joined, counts, is_dead};
 ghost use Rattle.dead.specs.Places.View.{line, line_of, line_count, view};
+ghost use Rattle.dead.specs.Places.Stays.{LinesStay};
 
 use sizes::DEAD;
 
@@ -14,14 +15,14 @@ const DEAD_TIME: u64 = 6000;
 // A line: a fingerprint, and the time when it joined.
 #[derive(Clone, Copy)]
 pub struct Row {
-    print: u64,
-    time: u64,
+    pub print: u64,
+    pub time: u64,
 }
 
 // The lines, where the oldest one stands, and how many there are. Nobody above reads its fields.
-#[derive(Drop)]
+#[derive(Clone, Copy)]
 pub struct Dead {
-    lines: [Row; DEAD],
+    pub lines: [Row; DEAD],
     at: usize,
     count: usize,
 }
@@ -52,6 +53,7 @@ impl Dead {
     pub fn clear(&mut self)
         ensures no_lines { view self.new ≡ [] }
         ensures none_counted { line_count self.new ≡ 0 }
+        ensures lines { LinesStay self.old self.new }
     {
         self.at = 0;
         self.count = 0;

@@ -1,5 +1,6 @@
 -- One outcome for each input of each public function: any two that its contract admits are the same in everything that it speaks of, also
--- from two memories that mean the same node. Rows and bits that mean no part of the node are not fixed.
+-- from two memories that mean the same node. Rows and bits that mean no part of the node are fixed only where the contract says outright
+-- that they stay.
 -- Assumes nothing.
 use mathlib.Core.Path.{◌≡◌, refl, sym, ap, ◌∙◌}
 use contract.Lifetimes.{Lfts}
@@ -39,7 +40,7 @@ new_one κs a b x y s t p q = p ∙ sym q
 pub clear_one : (κs : Lfts 1) (a b : Dens κs clear-kinds.ps) (x y : (res_t clear-kinds.r κs).Denot)
     (s t : AtExit (ended_of 1 clear-kinds.ps clear-kinds.r) κs) → clear_reads.Post κs a x s → clear_reads.Post κs b y t
     → node_of s.0.now ≡ node_of t.0.now
-clear_one κs a b x y s t p q = p ∙ sym q
+clear_one κs a b x y s t p q = p.0 ∙ sym q.0
 
 -- two answers with nothing sent are the same
 pub quiet_one : (κs : Lfts 0) (a : Dens κs quiet-kinds.ps) (x y : (res_t quiet-kinds.r κs).Denot)
@@ -90,7 +91,7 @@ module _ (κs : Lfts 4) where
   begins_same a b x y s t et ec n o p q =
       let w = begun_same (began x) (began y) (begins_memory a s) (begins_memory b t) (begins_output a s) (begins_output b t) n o
       _ _ _ _ et ec p.0 q.0 in
-      (began_one x y p.1 q.1 w.answer w.made, w)
+      (began_one x y p.1.0 q.1.0 w.answer w.made, w)
 
   -- two outcomes of the beginning of an event
   pub begins_one : (a : Dens κs begins-kinds.ps) (x y : (res_t begins-kinds.r κs).Denot)
@@ -121,7 +122,7 @@ module _ (κs : Lfts 4) where
       (clock_output a s).exit (clock_output b t).exit
   clock_same a b x y s t et n o p q =
       stepped_same x y (clock_memory a s) (clock_memory b t) (clock_output a s) (clock_output b t) n o
-      _ _ rules.clock rules.clock et refl p q
+      _ _ rules.clock rules.clock et refl p.0 q.0
 
   -- two outcomes of a reading of the clock
   pub clock_one : (a : Dens κs clock-kinds.ps) (x y : (res_t clock-kinds.r κs).Denot)

@@ -5,3 +5,4 @@ pub mod Begins
 pub mod Same
 pub mod Faces
 pub mod Rows
+pub mod Stays

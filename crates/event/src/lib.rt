@@ -10,6 +10,7 @@ ghost use Rattle.rules.specs.Node as rules;
 ghost use Rattle.rows.specs.Lent.{lent, shown};
 ghost use Rattle.event.specs.Memory.{node_of, output};
 ghost use Rattle.event.specs.Comes.{Stepped, Begun};
+ghost use Rattle.event.specs.Stays.{TablesStay, RowsStay};
 ghost use Rattle.event.specs.Places.Begins.{allowed, refusal, began};
 
 use answers::Answer;
@@ -25,7 +26,7 @@ use sizes::{LEAST_BUFFER, MOST_TIME};
 use store::Store;
 
 // A node's memory: the last accepted time, the faces, and the tables.
-#[derive(Drop)]
+#[derive(Clone, Copy)]
 pub struct Memory {
     pub time: u64,
     pub faces: Faces,
@@ -61,7 +62,8 @@ impl Memory {
 
 // An empty node, whatever the memory holds.
 pub fn clear(m: &mut Memory)
-    ensures { node_of m.new ≡ rules.empty_node most_faces }
+    ensures cleared { node_of m.new ≡ rules.empty_node most_faces }
+    ensures rows { RowsStay (lent m) }
 {
     m.time = 0;
     m.faces = Faces::none();
@@ -117,6 +119,8 @@ pub fn begins(
 ) -> Result<usize, Answer>
     ensures begun { Begun time bad (began result) (lent m) (output (shown sends) (shown out) (lent rows)) }
     ensures refused { IfErr result (λ a. number_of a ≢ 0) }
+    ensures kept { IfErr result (λ _. m.new ≡ m.old) }
+    ensures stays { TablesStay (lent m) }
 {
     check(m.time, time, out.len(), bad)?;
     m.time = time;
@@ -125,7 +129,8 @@ pub fn begins(
 
 // The clock is read.
 pub fn clock(m: &mut Memory, sends: &Sends, out: &[u8], rows: &mut Rows, time: u64) -> Came
-    ensures { Stepped time rules.clock result (lent m) (output (shown sends) (shown out) (lent rows)) }
+    ensures stepped { Stepped time rules.clock result (lent m) (output (shown sends) (shown out) (lent rows)) }
+    ensures stays { TablesStay (lent m) }
 {
     match begins(m, sends, out, rows, time, false) {
         Ok(made) => quiet(Answer::Done, made),

@@ -5,6 +5,7 @@ use mathlib.Core.Path.{◌≡◌, refl, sym, ◌∙◌, ap}
 use contract.Lifetimes.{Lfts}
 use denote.Triple.Clauses.{AtExit}
 use borrow.Fn.Kinds.{Dens, ended_of, res_t}
+use Rattle.sizes.specs.Sizes.{most_faces}
 use Rattle.faces.specs.Laws.Gives.{gives_one}
 use Rattle.faces.specs.Places.View.{view}
 use Rattle.faces.proofs.has.Kinds as has-kinds
@@ -175,4 +176,4 @@ of_one κs a x y s t p q = ap (λ l. record { left = l }) (p ∙ sym q)
 pub next_one : (κs : Lfts 1) (a : Dens κs next-kinds.ps) (x y : (res_t next-kinds.r κs).Denot)
     (s t : AtExit (ended_of 1 next-kinds.ps next-kinds.r) κs)
     → next-reads.Post κs a x s → next-reads.Post κs a y t → (x ≡ y) × (s.0.now.left ≡ t.0.now.left)
-next_one κs a x y s t p q = gives_one a.0.now x y p.0 q.0
+next_one κs a x y s t p q = gives_one most_faces a.0.now x y p.0 q.0

@@ -236,7 +236,7 @@ impl Walk {
 impl Iterator for Walk {
     type Item = usize;
 
-    ghost next_gives = { Gives };
+    ghost next_gives = { Gives most_faces };
 
     ghost remaining = { λ s. at_most s.left };
 

@@ -1,5 +1,6 @@
 -- One outcome for each input of each public function: any two that its contract admits are the same in everything that it speaks of, also
--- from two memories that mean the same node. Rows and bits that mean no part of the node are not fixed.
+-- from two memories that mean the same node. Rows and bits that mean no part of the node are fixed only where the contract says outright
+-- that they stay.
 -- Assumes nothing.
 use mathlib.Core.Path.{◌≡◌, refl}
 use contract.Lifetimes.{Lfts}
@@ -44,7 +45,7 @@ module _ (κs : Lfts 5) where
       (packet_output a s).exit (packet_output b t).exit
   packet_same a b x y s t et ew n o p q =
       stepped_same x y (packet_memory a s) (packet_memory b t) (packet_output a s) (packet_output b t) n o _ _ (packet_what a)
-      (packet_what b) et ew p q
+      (packet_what b) et ew p.0 q.0
 
   -- two outcomes of a packet
   pub packet_one : (a : Dens κs packet-kinds.ps) (x y : (res_t packet-kinds.r κs).Denot)

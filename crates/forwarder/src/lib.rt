@@ -1,7 +1,7 @@
 // A packet that comes in on a face: how the event begins, its header, and what stands in it.
 #![tactic(auto)]
 
-ghost use Rattle.std.specs.Prelude.{length};
+ghost use Rattle.std.specs.Prelude.{◌≡◌, length};
 ghost use Rattle.rules.specs.Node as rules;
 ghost use Rattle.rows.specs.Lent.{lent};
 ghost use Rattle.event.specs.Memory.{output};
@@ -25,7 +25,8 @@ fn read(
     face: usize,
     bytes: &[u8],
 ) -> Came
-    ensures { After (read_in (length out.old) face bytes.now) made result (lent m) (output (lent sends) (lent out) (lent rows)) }
+    ensures goes { After (read_in (length out.old) face bytes.now) made result (lent m) (output (lent sends) (lent out) (lent rows)) }
+    ensures routes { m.new.routes ≡ m.old.routes }
 {
     match read_header(bytes) {
         Err(answer) => quiet(answer, made),
@@ -46,7 +47,8 @@ pub fn packet(
     face: usize,
     bytes: &[u8],
 ) -> Came
-    ensures { Stepped time (rules.packet face bytes.now) result (lent m) (output (lent sends) (lent out) (lent rows)) }
+    ensures stepped { Stepped time (rules.packet face bytes.now) result (lent m) (output (lent sends) (lent out) (lent rows)) }
+    ensures routes { m.new.routes ≡ m.old.routes }
 {
     let bad = is_not_open(m.faces, face);
     match begins(m, sends, out, rows, time, bad) {

@@ -43,7 +43,7 @@ impl From<Fate> for u64 {
 }
 
 // Notes a row after the first `at`, with the word of a fate, and answers how many rows there are then; past the last row nothing is noted.
-pub fn note_word(
+pub fn note(
     rows: &mut Rows,
     at: usize,
     face: usize,
@@ -63,7 +63,7 @@ pub fn note_word(
 }
 
 // Notes a happening.
-pub fn note(
+pub fn note_fate(
     rows: &mut Rows,
     at: usize,
     face: usize,
@@ -74,5 +74,5 @@ pub fn note(
 ) -> usize
     ensures { Noted (lent rows) result at (note_of face class (fate_number (fate_in fate)) nonce expiry ∷ []) }
 {
-    note_word(rows, at, face, class, u64::from(fate), nonce, expiry)
+    note(rows, at, face, class, u64::from(fate), nonce, expiry)
 }

@@ -1,5 +1,6 @@
 -- One outcome for each input of each public function: any two that its contract admits are the same in everything that it speaks of, also
--- from two memories that mean the same node. Rows and bits that mean no part of the node are not fixed.
+-- from two memories that mean the same node. Rows and bits that mean no part of the node are fixed only where the contract says outright
+-- that they stay.
 -- Assumes nothing.
 use mathlib.Core.Path.{◌≡◌, refl}
 use contract.Lifetimes.{Lfts}
@@ -39,7 +40,7 @@ module _ (κs : Lfts 5) where
       → reads.Post κs a x s → reads.Post κs b y t
       → Same x y (node_of (data_memory a s).exit) (node_of (data_memory b t).exit) (data_output a s).exit (data_output b t).exit
   data_same a b x y s t ek ef eb ed n o p q =
-      data_on_same x y (data_memory a s) (data_memory b t) (data_output a s) (data_output b t) n o _ _ _ _ _ _ _ _ ek ef eb ed p q
+      data_on_same x y (data_memory a s) (data_memory b t) (data_output a s) (data_output b t) n o _ _ _ _ _ _ _ _ ek ef eb ed p.0 q.0
 
   -- two outcomes of a Data
   pub data_one : (a : Dens κs kinds.ps) (x y : (res_t kinds.r κs).Denot) (s t : AtExit (ended_of 5 kinds.ps kinds.r) κs)

@@ -7,6 +7,7 @@ ghost use Rattle.packethead.specs.Name.{name_of};
 ghost use Rattle.rules.specs.Data.{data_step};
 ghost use Rattle.rows.specs.Lent.{lent};
 ghost use Rattle.event.specs.Memory.{output};
+ghost use Rattle.event.specs.Stays.{DataStays};
 ghost use Rattle.coming.specs.Goes.{After, guarded};
 ghost use Rattle.coming.specs.Places.Found.{offer_found};
 ghost use Rattle.on_data.specs.Places.Brings.{brings, Fits};
@@ -42,7 +43,8 @@ fn bring(
     d: Data,
 ) -> Came
     requires { Fits name.now bare.now out.old }
-    ensures { After (brings face (offer_found bare.now d) bare.now) made result (lent m) (output (lent sends) (lent out) (lent rows)) }
+    ensures goes { After (brings face (offer_found bare.now d) bare.now) made result (lent m) (output (lent sends) (lent out) (lent rows)) }
+    ensures stays { DataStays (lent m) }
 {
     let stood = m.pending.size();
     let adhoc = m.faces.is_ad_hoc(face);
@@ -82,8 +84,9 @@ pub fn data(
     bare: &[u8],
     d: Data,
 ) -> Came
-    ensures { After (λ n. guarded (length out.old) (length bare.now) (length (name_of bare.now)) n
+    ensures goes { After (λ n. guarded (length out.old) (length bare.now) (length (name_of bare.now)) n
         (data_step n.time n face (offer_found bare.now d) bare.now)) made result (lent m) (output (lent sends) (lent out) (lent rows)) }
+    ensures stays { DataStays (lent m) }
 {
     let name = find_name(bare);
     if let Err(answer) = guard(m.time, out.len(), bare.len(), name.len()) {

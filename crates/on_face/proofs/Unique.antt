@@ -1,5 +1,6 @@
 -- One outcome for each input of each public function: any two that its contract admits are the same in everything that it speaks of, also
--- from two memories that mean the same node. Rows and bits that mean no part of the node are not fixed.
+-- from two memories that mean the same node. Rows and bits that mean no part of the node are fixed only where the contract says outright
+-- that they stay.
 -- Assumes nothing.
 use mathlib.Core.Path.{◌≡◌, refl}
 use contract.Lifetimes.{Lfts}
@@ -52,7 +53,7 @@ module _ (κs : Lfts 4) where
       (open_face_output a s).exit (open_face_output b t).exit
   open_face_same a b x y s t et ew n o p q =
       stepped_same x y (open_face_memory a s) (open_face_memory b t) (open_face_output a s) (open_face_output b t) n o
-      _ _ (open_face_what a) (open_face_what b) et ew p q
+      _ _ (open_face_what a) (open_face_what b) et ew p.0 q.0
 
   -- two outcomes of opening a face
   pub open_face_one : (a : Dens κs open-face-kinds.ps) (x y : (res_t open-face-kinds.r κs).Denot)
@@ -89,7 +90,7 @@ module _ (κs : Lfts 4) where
       (close_face_output a s).exit (close_face_output b t).exit
   close_face_same a b x y s t et ew n o p q =
       stepped_same x y (close_face_memory a s) (close_face_memory b t) (close_face_output a s) (close_face_output b t) n o
-      _ _ (close_face_what a) (close_face_what b) et ew p q
+      _ _ (close_face_what a) (close_face_what b) et ew p.0 q.0
 
   -- two outcomes of closing a face
   pub close_face_one : (a : Dens κs close-face-kinds.ps) (x y : (res_t close-face-kinds.r κs).Denot)

@@ -9,6 +9,8 @@ ghost use Rattle.rules.specs.Node as rules;
 ghost use Rattle.rows.specs.Lent.{lent, shown};
 ghost use Rattle.event.specs.Memory.{output};
 ghost use Rattle.event.specs.Comes.{Stepped};
+ghost use Rattle.event.specs.Stays.{TablesStay, StoreStays};
+ghost use Rattle.routes.specs.Places.Stays.{PrefixesStay, CostsStay};
 ghost use Rattle.on_face.specs.Turns.{FacesBy, LinkFor};
 ghost use Rattle.event.specs.Places.Begins.{answer_of};
 
@@ -67,7 +69,8 @@ pub fn open_face(
     scope: u64,
     link: u64,
 ) -> Came
-    ensures { Stepped time (rules.open_face face scope link) result (lent m) (output (shown sends) (shown out) (lent rows)) }
+    ensures stepped { Stepped time (rules.open_face face scope link) result (lent m) (output (shown sends) (shown out) (lent rows)) }
+    ensures stays { TablesStay (lent m) }
 {
     let bad = is_no_face(face);
     match begins(m, sends, out, rows, time, bad) {
@@ -88,7 +91,10 @@ pub fn close_face(
     time: u64,
     face: usize,
 ) -> Came
-    ensures { Stepped time (rules.close_face face) result (lent m) (output (shown sends) (shown out) (lent rows)) }
+    ensures stepped { Stepped time (rules.close_face face) result (lent m) (output (shown sends) (shown out) (lent rows)) }
+    ensures stays { StoreStays (lent m) }
+    ensures prefixes { PrefixesStay m.old.routes m.new.routes }
+    ensures costs { CostsStay m.old.routes m.new.routes }
 {
     let bad = is_not_open(m.faces, face);
     match begins(m, sends, out, rows, time, bad) {

@@ -1,5 +1,6 @@
 -- One outcome for each input of each public function: any two that its contract admits are the same in everything that it speaks of, also
--- from two memories that mean the same node. Rows and bits that mean no part of the node are not fixed.
+-- from two memories that mean the same node. Rows and bits that mean no part of the node are fixed only where the contract says outright
+-- that they stay.
 -- Assumes nothing.
 use mathlib.Core.Path.{◌≡◌, refl}
 use contract.Lifetimes.{Lfts}
@@ -41,7 +42,7 @@ module _ (κs : Lfts 5) where
       (interest_output a s).exit (interest_output b t).exit
   interest_same a b x y s t ek ef eb ei n o p q =
       interest_on_same x y (interest_memory a s) (interest_memory b t) (interest_output a s) (interest_output b t) n o
-      _ _ _ _ _ _ _ _ ek ef eb ei p q
+      _ _ _ _ _ _ _ _ ek ef eb ei p.0 q.0
 
   -- two outcomes of an Interest
   pub interest_one : (a : Dens κs kinds.ps) (x y : (res_t kinds.r κs).Denot) (s t : AtExit (ended_of 5 kinds.ps kinds.r) κs)

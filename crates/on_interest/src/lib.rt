@@ -21,6 +21,7 @@ ghost use Rattle.rules.specs.Node.{Node};
 ghost use Rattle.rules.specs.Interest.{Arrival, hop_is_zero, out_of_scope, served, asks_again, asks_entry, interest_step};
 ghost use Rattle.rows.specs.Lent.{lent};
 ghost use Rattle.event.specs.Memory.{output};
+ghost use Rattle.event.specs.Stays.{InterestStays};
 ghost use Rattle.event.specs.Places.Begins.{allowed};
 ghost use Rattle.coming.specs.Goes.{After, guard_says, guarded};
 ghost use Rattle.coming.specs.Places.Found.{limit_of, arrival_found};
@@ -31,7 +32,7 @@ use answers::Answer;
 use coming::{guard, is_out_of_scope};
 use event::{Came, Memory, quiet};
 use faces::Faces;
-use happenings::{Fate, Rows, note};
+use happenings::{Fate, Rows, note_fate};
 use names::FNV_START;
 use opening::{refused, route};
 use packethead::find_name;
@@ -60,9 +61,10 @@ fn serve(
     hit: store::Handle,
 ) -> Came
     requires { least_buffer ≤ length out.old }
-    ensures { (rows : List (List ℕ)) (a : Arrival) (h : Hit) → a.face ≡ face → h.place ≡ store.placed m.old.store hit
+    ensures goes { (rows : List (List ℕ)) (a : Arrival) (h : Hit) → a.face ≡ face → h.place ≡ store.placed m.old.store hit
         → store.found m.old.store hit ≡ some h.what
         → After (λ n. served n a h) made result (lent m) (output (lent sends) (lent out) (record { entry = rows; exit = rows })) }
+    ensures stays { InterestStays (lent m) }
 {
     let bytes = m.store.bytes_of(hit);
     let class = class_for(&m.routes, find_name(bytes));
@@ -93,7 +95,7 @@ fn note_opening(
     if faces::has(pending_handle::asking_faces(p, h), face) {
         made
     } else {
-        note(rows, made, face, class, Fate::Opened, nonce, expiry)
+        note_fate(rows, made, face, class, Fate::Opened, nonce, expiry)
     }
 }
 
@@ -111,15 +113,16 @@ fn ask_again(
     i: Interest,
 ) -> Came
     requires { Guarded m.old.time (length out.old) bare.now name.now }
-    ensures { (e : Entry) → pending.entry_at m.old.pending h ≡ some e
+    ensures goes { (e : Entry) → pending.entry_at m.old.pending h ≡ some e
         → After (λ n. asks_again n.time n (arrival_found face bare.now i) (pending.place_of m.old.pending h) e) made result (lent m)
         (output (lent sends) (lent out) (lent rows)) }
+    ensures stays { InterestStays (lent m) }
 {
     let expiry = expiry_of(m.time, i.lifetime);
     let class = m.pending.facts_of(h).class;
     let noted = note_opening(&m.pending, rows, made, h, face, class, i.nonce, expiry);
     pending_handle::renew(&mut m.pending, h, face, i.nonce, expiry);
-    let Some(to) = next_hop(m, h, face, name, i.hop) else {
+    let Some(to) = next_hop(m.time, m.faces, &m.routes, &m.pending, h, face, name, i.hop) else {
         return quiet(Answer::Done, noted);
     };
     pending_handle::send(&mut m.pending, h, to, i.nonce, m.time);
@@ -143,12 +146,26 @@ fn ask_anew(
     i: Interest,
 ) -> Came
     requires { Guarded m.old.time (length out.old) bare.now name.now }
-    ensures { After (λ n. asks_entry n.time n (arrival_found face bare.now i) none) made result (lent m)
+    ensures goes { After (λ n. asks_entry n.time n (arrival_found face bare.now i) none) made result (lent m)
         (output (lent sends) (lent out) (lent rows)) }
+    ensures stays { InterestStays (lent m) }
 {
     match m.store.look(name, i.can_be_prefix, i.must_be_fresh, m.time) {
         Some(hit) => serve(m, sends, out, made, face, hit),
-        None => route(m, sends, out, rows, made, face, name, bare, i),
+        None => route(
+            m.time,
+            m.faces,
+            &m.routes,
+            &mut m.pending,
+            sends,
+            out,
+            rows,
+            made,
+            face,
+            name,
+            bare,
+            i,
+        ),
     }
 }
 
@@ -158,7 +175,9 @@ fn see(m: &Memory, face: usize, name: &[u8], i: Interest) -> Seen
         (pending.place_of m.now.pending) }
 {
     let handle = m.pending.find(name, i.can_be_prefix, i.must_be_fresh);
-    let looped = loops(m, FNV_START, handle, face, name, i.nonce);
+    let looped = loops(
+        m.time, m.faces, &m.pending, &m.dead, FNV_START, handle, face, name, i.nonce,
+    );
     Seen {
         entry: m.pending.is_there(handle).then_some(handle),
         loops: looped,
@@ -200,8 +219,9 @@ pub fn interest(
     bare: &[u8],
     i: Interest,
 ) -> Came
-    ensures { After (λ n. guarded (length out.old) (length bare.now) (length (name_of bare.now)) n
+    ensures goes { After (λ n. guarded (length out.old) (length bare.now) (length (name_of bare.now)) n
         (interest_step n.time n (arrival_found face bare.now i))) made result (lent m) (output (lent sends) (lent out) (lent rows)) }
+    ensures stays { InterestStays (lent m) }
 {
     let name = find_name(bare);
     if let Err(answer) = check(m.time, m.faces, out.len(), face, name, bare, i.hop) {
@@ -209,7 +229,18 @@ pub fn interest(
     }
     let seen = see(m, face, name, i);
     if seen.loops {
-        return refused(m, sends, out, made, face, Answer::Loop, DUPLICATE, name, i);
+        return refused(
+            m.faces,
+            &m.routes,
+            sends,
+            out,
+            made,
+            face,
+            Answer::Loop,
+            DUPLICATE,
+            name,
+            i,
+        );
     }
     match seen.entry {
         Some(h) => ask_again(m, sends, out, rows, made, h, face, name, bare, i),

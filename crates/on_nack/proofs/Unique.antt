@@ -1,5 +1,6 @@
 -- One outcome for each input of each public function: any two that its contract admits are the same in everything that it speaks of, also
--- from two memories that mean the same node. Rows and bits that mean no part of the node are not fixed.
+-- from two memories that mean the same node. Rows and bits that mean no part of the node are fixed only where the contract says outright
+-- that they stay.
 -- Assumes nothing.
 use mathlib.Core.Path.{◌≡◌, refl}
 use contract.Lifetimes.{Lfts}
@@ -41,7 +42,7 @@ module _ (κs : Lfts 5) where
       → Same x y (node_of (nack_memory a s).exit) (node_of (nack_memory b t).exit) (nack_output a s).exit (nack_output b t).exit
   nack_same a b x y s t ek ef ea eb ed n o p q =
       nack_on_same x y (nack_memory a s) (nack_memory b t) (nack_output a s) (nack_output b t) n o _ _ _ _ _ _ _ _ _ _ ek ef ea eb ed
-      p q
+      p.0 q.0
 
   -- two outcomes of a Nack
   pub nack_one : (a : Dens κs kinds.ps) (x y : (res_t kinds.r κs).Denot) (s t : AtExit (ended_of 5 kinds.ps kinds.r) κs)

@@ -13,6 +13,7 @@ ghost use Rattle.rows.specs.Lent.{lent};
 ghost use Rattle.pending_table.specs.Places.View.{place_of, entry_at};
 ghost use Rattle.sending.specs.Places.Sheet.{PacksIn};
 ghost use Rattle.event.specs.Memory.{output};
+ghost use Rattle.event.specs.Stays.{NackStays};
 ghost use Rattle.coming.specs.Goes.{After, guarded};
 ghost use Rattle.coming.specs.Places.Found.{ask_found};
 ghost use Rattle.on_nack.specs.Places.Nacks.{nonce_at, nacks_on};
@@ -88,10 +89,11 @@ fn end_by_nack(
 ) -> Came
     requires name_fits { length name.now ≤ most_name }
     requires buffer_fits { least_buffer ≤ length out.old }
-    ensures { (e : Entry) → entry_at m.old.pending h ≡ some e → is_known name.now prefix fresh e ≡ true
+    ensures goes { (e : Entry) → entry_at m.old.pending h ≡ some e → is_known name.now prefix fresh e ≡ true
         → reason ≡ smallest_reason (held e.sent)
         → After (λ n. ends_by_nack n.time n (place_of m.old.pending h) e) made result (lent m) (output (lent sends) (lent out)
         (lent rows)) }
+    ensures stays { NackStays (lent m) }
 {
     let p = &mut m.pending;
     let asking = asking_faces(p, h);
@@ -125,9 +127,10 @@ fn mark(
 ) -> Came
     requires name_fits { length name.now ≤ most_name }
     requires buffer_fits { least_buffer ≤ length out.old }
-    ensures { (e : Entry) → entry_at m.old.pending h ≡ some e → is_known name.now prefix fresh e ≡ true
+    ensures goes { (e : Entry) → entry_at m.old.pending h ≡ some e → is_known name.now prefix fresh e ≡ true
         → After (λ n. nacked_entry n.time n (place_of m.old.pending h) (with_nack face reason e)) made result (lent m)
         (output (lent sends) (lent out) (lent rows)) }
+    ensures stays { NackStays (lent m) }
 {
     mark_nacked(&mut m.pending, h, face, reason);
     match all_nacked(&m.pending, h) {
@@ -154,9 +157,10 @@ fn take(
 ) -> Came
     requires name_fits { length name.now ≤ most_name }
     requires buffer_fits { least_buffer ≤ length out.old }
-    ensures { (a : Ask) → a.name ≡ name.now → a.can_be_prefix ≡ i.can_be_prefix → a.must_be_fresh ≡ i.must_be_fresh
+    ensures goes { (a : Ask) → a.name ≡ name.now → a.can_be_prefix ≡ i.can_be_prefix → a.must_be_fresh ≡ i.must_be_fresh
         → a.nonce ≡ i.nonce
         → After (λ n. nack_step n.time n face reason a) made result (lent m) (output (lent sends) (lent out) (lent rows)) }
+    ensures stays { NackStays (lent m) }
 {
     if is_out_of_scope(m.faces, face, name) {
         return quiet(Answer::Scope, made);
@@ -187,8 +191,9 @@ pub fn nack(
     bare: &[u8],
     i: Interest,
 ) -> Came
-    ensures { After (λ n. guarded (length out.old) (length bare.now) (length (name_of bare.now)) n
+    ensures goes { After (λ n. guarded (length out.old) (length bare.now) (length (name_of bare.now)) n
         (nack_step n.time n face reason (ask_found bare.now i))) made result (lent m) (output (lent sends) (lent out) (lent rows)) }
+    ensures stays { NackStays (lent m) }
 {
     let name = find_name(bare);
     if let Err(answer) = guard(m.time, out.len(), bare.len(), name.len()) {

@@ -1,5 +1,6 @@
 -- One outcome for each input of each public function: any two that its contract admits are the same in everything that it speaks of, also
--- from two memories that mean the same node. Rows and bits that mean no part of the node are not fixed.
+-- from two memories that mean the same node. Rows and bits that mean no part of the node are fixed only where the contract says outright
+-- that they stay.
 -- Assumes nothing.
 use mathlib.Core.Path.{◌≡◌, refl}
 use contract.Lifetimes.{Lfts}
@@ -56,7 +57,7 @@ module _ (κs : Lfts 5) where
       (drop_route_output a s).exit (drop_route_output b t).exit
   drop_route_same a b x y s t et ew n o p q =
       stepped_same x y (drop_route_memory a s) (drop_route_memory b t) (drop_route_output a s) (drop_route_output b t) n o
-      _ _ (drop_route_what a) (drop_route_what b) et ew p q
+      _ _ (drop_route_what a) (drop_route_what b) et ew p.0 q.0
 
   -- two outcomes of dropping a route
   pub drop_route_one : (a : Dens κs drop-route-kinds.ps) (x y : (res_t drop-route-kinds.r κs).Denot)
@@ -93,7 +94,7 @@ module _ (κs : Lfts 5) where
       (set_route_output a s).exit (set_route_output b t).exit
   set_route_same a b x y s t et ew n o p q =
       stepped_same x y (set_route_memory a s) (set_route_memory b t) (set_route_output a s) (set_route_output b t) n o
-      _ _ (set_route_what a) (set_route_what b) et ew p q
+      _ _ (set_route_what a) (set_route_what b) et ew p.0 q.0
 
   -- two outcomes of setting a route
   pub set_route_one : (a : Dens κs set-route-kinds.ps) (x y : (res_t set-route-kinds.r κs).Denot)
@@ -130,7 +131,7 @@ module _ (κs : Lfts 5) where
       (add_hop_output a s).exit (add_hop_output b t).exit
   add_hop_same a b x y s t et ew n o p q =
       stepped_same x y (add_hop_memory a s) (add_hop_memory b t) (add_hop_output a s) (add_hop_output b t) n o
-      _ _ (add_hop_what a) (add_hop_what b) et ew p q
+      _ _ (add_hop_what a) (add_hop_what b) et ew p.0 q.0
 
   -- two outcomes of adding a hop
   pub add_hop_one : (a : Dens κs add-hop-kinds.ps) (x y : (res_t add-hop-kinds.r κs).Denot)
@@ -167,7 +168,7 @@ module _ (κs : Lfts 5) where
       (drop_hop_output a s).exit (drop_hop_output b t).exit
   drop_hop_same a b x y s t et ew n o p q =
       stepped_same x y (drop_hop_memory a s) (drop_hop_memory b t) (drop_hop_output a s) (drop_hop_output b t) n o
-      _ _ (drop_hop_what a) (drop_hop_what b) et ew p q
+      _ _ (drop_hop_what a) (drop_hop_what b) et ew p.0 q.0
 
   -- two outcomes of dropping a hop
   pub drop_hop_one : (a : Dens κs drop-hop-kinds.ps) (x y : (res_t drop-hop-kinds.r κs).Denot)

@@ -29,6 +29,11 @@ Turns calls w =
     (t : MutBor Routes) (r : Result (Unit {0}) Answer) (t' : MutBor Routes) → calls t r t'
     → RoutesBy w (view t.now) (answer_of r) (view t'.now)
 
+-- each call leaves of the routes what a relation says of those before and those after it
+abbrev pub Keeps : Calls → (Routes → Routes → Type 0) → Type 0
+Keeps calls stays =
+    (t : MutBor Routes) (r : Result (Unit {0}) Answer) (t' : MutBor Routes) → calls t r t' → stays t.now t'.now
+
 -- "5, 6, name size (4)": what a prefix is answered
 unfoldable pub prefix_says : List ℕ → Answer
 prefix_says p =

@@ -10,8 +10,10 @@ ghost use Rattle.rules.specs.Step.{bad_face};
 ghost use Rattle.rows.specs.Lent.{lent, shown};
 ghost use Rattle.event.specs.Memory.{output, node_of};
 ghost use Rattle.event.specs.Comes.{Stepped};
+ghost use Rattle.event.specs.Stays.{StoreStays};
+ghost use Rattle.routes.specs.Places.Stays.{PrefixesStay, CostsStay};
 ghost use Rattle.event.specs.Places.Begins.{allowed, answer_of};
-ghost use Rattle.on_route.specs.Turns.{RoutesBy, Turns, prefix_says};
+ghost use Rattle.on_route.specs.Turns.{RoutesBy, Turns, Keeps, prefix_says};
 
 use answers::Answer;
 use event::{Came, Memory, begins, is_not_open, quiet};
@@ -49,8 +51,11 @@ fn turning<F: FnOnce(&mut Routes) -> Result<(), Answer>>(
     turn: F,
 ) -> Came
     requires { F.IsAlwaysCallable turn }
-    ensures { (w : rules.What) → bad ≡ bad_face most_faces (node_of m.old) w → Turns (F.post turn) w
+    ensures stepped { (w : rules.What) → bad ≡ bad_face most_faces (node_of m.old) w → Turns (F.post turn) w
         → Stepped time w result (lent m) (output (shown sends) (shown out) (lent rows)) }
+    ensures stays { StoreStays (lent m) }
+    ensures prefixes { Keeps (F.post turn) PrefixesStay → PrefixesStay m.old.routes m.new.routes }
+    ensures costs { Keeps (F.post turn) CostsStay → CostsStay m.old.routes m.new.routes }
 {
     match begins(m, sends, out, rows, time, bad) {
         Err(answer) => quiet(answer, 0),
@@ -80,7 +85,8 @@ pub fn drop_route(
     time: u64,
     prefix: &[u8],
 ) -> Came
-    ensures { Stepped time (rules.drop_route prefix.now) result (lent m) (output (shown sends) (shown out) (lent rows)) }
+    ensures stepped { Stepped time (rules.drop_route prefix.now) result (lent m) (output (shown sends) (shown out) (lent rows)) }
+    ensures stays { StoreStays (lent m) }
 {
     turning(m, sends, out, rows, time, false, |known| {
         dropping(known, prefix)
@@ -97,7 +103,8 @@ fn is_class(class: u64) -> bool
 
 // A route is set: 15, then a known prefix, then 16.
 fn setting(known: &mut Routes, class: u64, prefix: &[u8]) -> Result<(), Answer>
-    ensures { RoutesBy (rules.set_route class prefix.now) (view known.old) (answer_of result) (view known.new) }
+    ensures turned { RoutesBy (rules.set_route class prefix.now) (view known.old) (answer_of result) (view known.new) }
+    ensures costs { CostsStay known.old known.new }
 {
     check(prefix)?;
     if !is_class(class) {
@@ -120,7 +127,9 @@ pub fn set_route(
     class: u64,
     prefix: &[u8],
 ) -> Came
-    ensures { Stepped time (rules.set_route class prefix.now) result (lent m) (output (shown sends) (shown out) (lent rows)) }
+    ensures stepped { Stepped time (rules.set_route class prefix.now) result (lent m) (output (shown sends) (shown out) (lent rows)) }
+    ensures stays { StoreStays (lent m) }
+    ensures costs { CostsStay m.old.routes m.new.routes }
 {
     turning(m, sends, out, rows, time, false, |known| {
         setting(known, class, prefix)
@@ -129,7 +138,8 @@ pub fn set_route(
 
 // A hop is added: "Adding a known hop changes its cost."
 fn adding_hop(known: &mut Routes, face: usize, cost: u64, prefix: &[u8]) -> Result<(), Answer>
-    ensures { RoutesBy (rules.add_hop face cost prefix.now) (view known.old) (answer_of result) (view known.new) }
+    ensures turned { RoutesBy (rules.add_hop face cost prefix.now) (view known.old) (answer_of result) (view known.new) }
+    ensures prefixes { PrefixesStay known.old known.new }
 {
     check(prefix)?;
     if MOST_COST < cost {
@@ -151,7 +161,9 @@ pub fn add_hop(
     cost: u64,
     prefix: &[u8],
 ) -> Came
-    ensures { Stepped time (rules.add_hop face cost prefix.now) result (lent m) (output (shown sends) (shown out) (lent rows)) }
+    ensures stepped { Stepped time (rules.add_hop face cost prefix.now) result (lent m) (output (shown sends) (shown out) (lent rows)) }
+    ensures stays { StoreStays (lent m) }
+    ensures prefixes { PrefixesStay m.old.routes m.new.routes }
 {
     let bad = is_not_open(m.faces, face);
     turning(m, sends, out, rows, time, bad, |known| {
@@ -161,7 +173,9 @@ pub fn add_hop(
 
 // A hop is dropped: "A hop or drop on something absent is 10."
 fn dropping_hop(known: &mut Routes, face: usize, prefix: &[u8]) -> Result<(), Answer>
-    ensures { RoutesBy (rules.drop_hop face prefix.now) (view known.old) (answer_of result) (view known.new) }
+    ensures turned { RoutesBy (rules.drop_hop face prefix.now) (view known.old) (answer_of result) (view known.new) }
+    ensures prefixes { PrefixesStay known.old known.new }
+    ensures costs { CostsStay known.old known.new }
 {
     check(prefix)?;
     let route = known.find(prefix).ok_or(Answer::NoRoute)?;
@@ -182,7 +196,10 @@ pub fn drop_hop(
     face: usize,
     prefix: &[u8],
 ) -> Came
-    ensures { Stepped time (rules.drop_hop face prefix.now) result (lent m) (output (shown sends) (shown out) (lent rows)) }
+    ensures stepped { Stepped time (rules.drop_hop face prefix.now) result (lent m) (output (shown sends) (shown out) (lent rows)) }
+    ensures stays { StoreStays (lent m) }
+    ensures prefixes { PrefixesStay m.old.routes m.new.routes }
+    ensures costs { CostsStay m.old.routes m.new.routes }
 {
     let bad = is_not_open(m.faces, face);
     turning(m, sends, out, rows, time, bad, |known| {

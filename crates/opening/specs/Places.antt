@@ -1,3 +1,4 @@
 pub mod Asked
+pub mod Beside
 pub mod Sized
 pub mod Way

@@ -7,7 +7,11 @@ ghost use Rattle.records.specs.Class.{class_of};
 ghost use Rattle.records.specs.Route.{longest};
 ghost use Rattle.faces.specs.Set.{faces_where};
 ghost use Rattle.faces.specs.Places.View.{view};
+ghost use Rattle.faces.specs.declared.Faces.{Faces};
+ghost use Rattle.dead.specs.declared.Dead.{Dead};
 ghost use Rattle.routes.specs.Places.View as routes;
+ghost use Rattle.routes.specs.declared.Routes.{Routes};
+ghost use Rattle.store.specs.declared.Store.{Store};
 ghost use Rattle.pending_table.specs.Places.View as pending;
 ghost use Rattle.rules.specs.Interest.{opens_entry, routed};
 ghost use Rattle.writing.specs.Written.{nack_bytes};
@@ -17,14 +21,17 @@ ghost use Rattle.sending.specs.Places.Sheet.{PacksIn, nack_sends};
 ghost use Rattle.event.specs.Memory.{output};
 ghost use Rattle.coming.specs.Goes.{After, guarded};
 ghost use Rattle.coming.specs.Places.Found.{arrival_named};
+ghost use Rattle.opening.specs.Places.Beside.{beside};
 ghost use Rattle.opening.specs.Places.Sized.{Sized};
 ghost use Rattle.opening.specs.Places.Way.{Way};
 
 use answers::Answer;
 use coming::guard;
-use event::{Came, Memory, quiet};
-use happenings::{Fate, Rows, note};
+use event::{Came, quiet};
+use faces::Faces;
+use happenings::{Fate, Rows, note_fate};
 use packets::Interest;
+use pending_table::Pending;
 use routes::Routes;
 use sending::{Sends, refuse, send_interest};
 use ways::{eligible, expiry_of};
@@ -38,7 +45,8 @@ const NO_ROUTE: u8 = 150;
 
 // A refusal with its Nack.
 pub fn refused(
-    m: &Memory,
+    faces: Faces,
+    known: &Routes,
     sends: &mut Sends,
     out: &mut [u8],
     made: usize,
@@ -51,7 +59,7 @@ pub fn refused(
     ensures answers { result ≡ record { answer = answer; sent = result.sent; made = made } }
     ensures packs { PacksIn (lent sends) (lent out) result.sent
         (if_room (nack_bytes reason name.now i.can_be_prefix i.must_be_fresh i.nonce) out.old
-        (nack_sends (view m.now.faces) (routes.view m.now.routes) face reason name.now i.can_be_prefix i.must_be_fresh i.nonce)) }
+        (nack_sends (view faces) (routes.view known.now) face reason name.now i.can_be_prefix i.must_be_fresh i.nonce)) }
 {
     let request = Request {
         name,
@@ -61,14 +69,15 @@ pub fn refused(
     };
     Came {
         answer,
-        sent: refuse(&m.routes, m.faces, sends, out, face, reason, request),
+        sent: refuse(known, faces, sends, out, face, reason, request),
         made,
     }
 }
 
 // "Else open, and send to the cheapest eligible hop": the request with its expiry.
 fn open(
-    m: &mut Memory,
+    time: u64,
+    p: &mut Pending,
     sends: &mut Sends,
     out: &mut [u8],
     rows: &mut Rows,
@@ -80,17 +89,17 @@ fn open(
     class: u64,
     to: usize,
 ) -> Came
-    requires sized { Sized m.old.time (length out.old) (length bare.now) (length name.now) }
-    requires has_room { length (pending.view m.old.pending) < most_entries }
-    ensures { After (λ n. opens_entry n.time n (arrival_named face name.now bare.now i) (class_of class) to) made result (lent m)
-        (output (lent sends) (lent out) (lent rows)) }
+    requires sized { Sized time (length out.old) (length bare.now) (length name.now) }
+    requires has_room { length (pending.view p.old) < most_entries }
+    ensures { (f : Faces) (r : Routes) (s : Store) (d : Dead)
+        → After (λ n. opens_entry n.time n (arrival_named face name.now bare.now i) (class_of class) to) made result
+        (beside time f r (lent p) s d) (output (lent sends) (lent out) (lent rows)) }
 {
-    let expiry = expiry_of(m.time, i.lifetime);
-    let p = &mut m.pending;
+    let expiry = expiry_of(time, i.lifetime);
     let h = p.open(name, i.can_be_prefix, i.must_be_fresh, class);
     pending_handle::renew(p, h, face, i.nonce, expiry);
-    pending_handle::send(p, h, to, i.nonce, m.time);
-    let noted = note(rows, made, face, class, Fate::Opened, i.nonce, expiry);
+    pending_handle::send(p, h, to, i.nonce, time);
+    let noted = note_fate(rows, made, face, class, Fate::Opened, i.nonce, expiry);
     Came {
         answer: Answer::Done,
         sent: send_interest(sends, out, to, class, bare, i.hop),
@@ -109,7 +118,10 @@ fn way(known: &Routes, name: &[u8], may: u64) -> Option<(u64, usize)>
 
 // "Otherwise take the longest matching route. NO_ROUTE exactly when there is none or no next hop of it is eligible. Then NO_ROOM."
 pub fn route(
-    m: &mut Memory,
+    time: u64,
+    faces: Faces,
+    known: &Routes,
+    p: &mut Pending,
     sends: &mut Sends,
     out: &mut [u8],
     rows: &mut Rows,
@@ -119,23 +131,29 @@ pub fn route(
     bare: &[u8],
     i: Interest,
 ) -> Came
-    ensures { After (λ n. guarded (length out.old) (length bare.now) (length name.now) n
+    ensures { (s : Store) (d : Dead) → After (λ n. guarded (length out.old) (length bare.now) (length name.now) n
         (routed n.time n (arrival_named face name.now bare.now i) (longest name.now n.routes))) made result
-        (lent m) (output (lent sends) (lent out) (lent rows)) }
+        (beside time faces known.now (lent p) s d) (output (lent sends) (lent out) (lent rows)) }
 {
-    if let Err(answer) = guard(m.time, out.len(), bare.len(), name.len()) {
+    if let Err(answer) = guard(time, out.len(), bare.len(), name.len()) {
         return quiet(answer, made);
     }
-    let local = m.faces.is_local(face);
-    let may = eligible(m.faces, face, i.hop, name, local);
-    let Some((class, to)) = way(&m.routes, name, may) else {
+    let local = faces.is_local(face);
+    let may = eligible(faces, face, i.hop, name, local);
+    let Some((class, to)) = way(known, name, may) else {
         let answer = Answer::NoRoute;
-        return refused(m, sends, out, made, face, answer, NO_ROUTE, name, i);
+        return refused(
+            faces, known, sends, out, made, face, answer, NO_ROUTE, name, i,
+        );
     };
-    if m.pending.has_room(class) {
-        open(m, sends, out, rows, made, face, name, bare, i, class, to)
+    if p.has_room(class) {
+        open(
+            time, p, sends, out, rows, made, face, name, bare, i, class, to,
+        )
     } else {
         let answer = Answer::NoRoom;
-        refused(m, sends, out, made, face, answer, CONGESTION, name, i)
+        refused(
+            faces, known, sends, out, made, face, answer, CONGESTION, name, i,
+        )
     }
 }

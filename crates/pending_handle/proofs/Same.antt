@@ -88,7 +88,7 @@ pub renew_same : (κs : Lfts 1) (a b : Dens κs renew-kinds.ps) (x y : (res_t re
     → (view s.0.now ≡ view t.0.now) × (place_of s.0.now a.1.0 ≡ place_of t.0.now b.1.0)
 renew_same κs a b x y s t e h e1 e2 e3 p q = (
   p.0 ∙ changed_alike (ap3 (λ (f n x : ℕ). asking f (record { nonce = n; expiry = x })) e1 e2 e3) h e ∙ sym q.0,
-  stands_alike a.1.0 b.1.0 h p.1 q.1,
+  stands_alike a.1.0 b.1.0 h p.1.0 q.1.0,
 )
 
 -- Ends the requests of the faces of a set, all at once
@@ -98,7 +98,7 @@ pub end_requests_same : (κs : Lfts 1) (a b : Dens κs end-requests-kinds.ps) (x
     → end-requests-reads.Post κs a x s → end-requests-reads.Post κs b y t
     → (view s.0.now ≡ view t.0.now) × (place_of s.0.now a.1.0 ≡ place_of t.0.now b.1.0)
 end_requests_same κs a b x y s t e h e1 p q =
-    (p.0 ∙ changed_alike (ap (λ (k : ℕ). ending (has_face most_faces k)) e1) h e ∙ sym q.0, stands_alike a.1.0 b.1.0 h p.1 q.1)
+    (p.0 ∙ changed_alike (ap (λ (k : ℕ). ending (has_face most_faces k)) e1) h e ∙ sym q.0, stands_alike a.1.0 b.1.0 h p.1.0 q.1.0)
 
 -- "A send sets the out-record anew, its Nack reason cleared."
 pub send_same : (κs : Lfts 1) (a b : Dens κs send-kinds.ps) (x y : (res_t send-kinds.r κs).Denot)
@@ -109,7 +109,7 @@ pub send_same : (κs : Lfts 1) (a b : Dens κs send-kinds.ps) (x y : (res_t send
     → (view s.0.now ≡ view t.0.now) × (place_of s.0.now a.1.0 ≡ place_of t.0.now b.1.0)
 send_same κs a b x y s t e h e1 e2 e3 p q = (
   p.0 ∙ changed_alike (ap3 (λ (f n x : ℕ). sending f (record { nonce = n; time = x; nacked = none })) e1 e2 e3) h e ∙ sym q.0,
-  stands_alike a.1.0 b.1.0 h p.1 q.1,
+  stands_alike a.1.0 b.1.0 h p.1.0 q.1.0,
 )
 
 -- Takes a face's out-record out
@@ -119,7 +119,7 @@ pub end_sent_same : (κs : Lfts 1) (a b : Dens κs end-sent-kinds.ps) (x y : (re
     → end-sent-reads.Post κs a x s → end-sent-reads.Post κs b y t
     → (view s.0.now ≡ view t.0.now) × (place_of s.0.now a.1.0 ≡ place_of t.0.now b.1.0)
 end_sent_same κs a b x y s t e h e1 p q =
-    (p.0 ∙ changed_alike (ap not_sent e1) h e ∙ sym q.0, stands_alike a.1.0 b.1.0 h p.1 q.1)
+    (p.0 ∙ changed_alike (ap not_sent e1) h e ∙ sym q.0, stands_alike a.1.0 b.1.0 h p.1.0 q.1.0)
 
 -- "Reasons other than 50, 100, 150 become 0, still Nacked.": marks a face's out-record
 pub mark_nacked_same : (κs : Lfts 1) (a b : Dens κs mark-nacked-kinds.ps) (x y : (res_t mark-nacked-kinds.r κs).Denot)
@@ -128,7 +128,7 @@ pub mark_nacked_same : (κs : Lfts 1) (a b : Dens κs mark-nacked-kinds.ps) (x y
     → mark-nacked-reads.Post κs a x s → mark-nacked-reads.Post κs b y t
     → (view s.0.now ≡ view t.0.now) × (place_of s.0.now a.1.0 ≡ place_of t.0.now b.1.0)
 mark_nacked_same κs a b x y s t e h e1 e2 p q =
-    (p.0 ∙ changed_alike (ap2 with_nack e1 e2) h e ∙ sym q.0, stands_alike a.1.0 b.1.0 h p.1 q.1)
+    (p.0 ∙ changed_alike (ap2 with_nack e1 e2) h e ∙ sym q.0, stands_alike a.1.0 b.1.0 h p.1.0 q.1.0)
 
 -- Ends the requests that are over; the set of their faces
 pub age_same : (κs : Lfts 1) (a b : Dens κs age-kinds.ps) (x y : (res_t age-kinds.r κs).Denot)
@@ -139,7 +139,7 @@ pub age_same : (κs : Lfts 1) (a b : Dens κs age-kinds.ps) (x y : (res_t age-ki
 age_same κs a b x y s t e h e1 p q = (
   p.1.0 ∙ said_alike 0 (ap (overdue_faces most_faces) e1) h e ∙ sym q.1.0,
   p.0 ∙ changed_alike (ap aged_entry e1) h e ∙ sym q.0,
-  stands_alike a.1.0 b.1.0 h p.1.1 q.1.1,
+  stands_alike a.1.0 b.1.0 h p.1.1.0 q.1.1.0,
 )
 
 -- The faces with a request

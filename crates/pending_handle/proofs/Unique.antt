@@ -67,42 +67,42 @@ pub renew_one : (κs : Lfts 1) (a : Dens κs renew-kinds.ps) (x y : (res_t renew
     (s t : AtExit (ended_of 1 renew-kinds.ps renew-kinds.r) κs)
     → renew-reads.Post κs a x s → renew-reads.Post κs a y t
     → (view s.0.now ≡ view t.0.now) × Stands s.0.now t.0.now
-renew_one κs a x y s t p q = (p.0 ∙ sym q.0, stands_one p.1 q.1)
+renew_one κs a x y s t p q = (p.0 ∙ sym q.0, stands_one p.1.0 q.1.0)
 
 -- two outcomes have the same entries: Ends the requests of the faces of a set, all at once
 pub end_requests_one : (κs : Lfts 1) (a : Dens κs end-requests-kinds.ps) (x y : (res_t end-requests-kinds.r κs).Denot)
     (s t : AtExit (ended_of 1 end-requests-kinds.ps end-requests-kinds.r) κs)
     → end-requests-reads.Post κs a x s → end-requests-reads.Post κs a y t
     → (view s.0.now ≡ view t.0.now) × Stands s.0.now t.0.now
-end_requests_one κs a x y s t p q = (p.0 ∙ sym q.0, stands_one p.1 q.1)
+end_requests_one κs a x y s t p q = (p.0 ∙ sym q.0, stands_one p.1.0 q.1.0)
 
 -- two outcomes have the same entries: "A send sets the out-record anew, its Nack reason cleared."
 pub send_one : (κs : Lfts 1) (a : Dens κs send-kinds.ps) (x y : (res_t send-kinds.r κs).Denot)
     (s t : AtExit (ended_of 1 send-kinds.ps send-kinds.r) κs)
     → send-reads.Post κs a x s → send-reads.Post κs a y t
     → (view s.0.now ≡ view t.0.now) × Stands s.0.now t.0.now
-send_one κs a x y s t p q = (p.0 ∙ sym q.0, stands_one p.1 q.1)
+send_one κs a x y s t p q = (p.0 ∙ sym q.0, stands_one p.1.0 q.1.0)
 
 -- two outcomes have the same entries: Takes a face's out-record out
 pub end_sent_one : (κs : Lfts 1) (a : Dens κs end-sent-kinds.ps) (x y : (res_t end-sent-kinds.r κs).Denot)
     (s t : AtExit (ended_of 1 end-sent-kinds.ps end-sent-kinds.r) κs)
     → end-sent-reads.Post κs a x s → end-sent-reads.Post κs a y t
     → (view s.0.now ≡ view t.0.now) × Stands s.0.now t.0.now
-end_sent_one κs a x y s t p q = (p.0 ∙ sym q.0, stands_one p.1 q.1)
+end_sent_one κs a x y s t p q = (p.0 ∙ sym q.0, stands_one p.1.0 q.1.0)
 
 -- two outcomes have the same entries: "Reasons other than 50, 100, 150 become 0, still Nacked.": marks a face's out-record
 pub mark_nacked_one : (κs : Lfts 1) (a : Dens κs mark-nacked-kinds.ps) (x y : (res_t mark-nacked-kinds.r κs).Denot)
     (s t : AtExit (ended_of 1 mark-nacked-kinds.ps mark-nacked-kinds.r) κs)
     → mark-nacked-reads.Post κs a x s → mark-nacked-reads.Post κs a y t
     → (view s.0.now ≡ view t.0.now) × Stands s.0.now t.0.now
-mark_nacked_one κs a x y s t p q = (p.0 ∙ sym q.0, stands_one p.1 q.1)
+mark_nacked_one κs a x y s t p q = (p.0 ∙ sym q.0, stands_one p.1.0 q.1.0)
 
 -- two outcomes are the same: Ends the requests that are over; the set of their faces
 pub age_one : (κs : Lfts 1) (a : Dens κs age-kinds.ps) (x y : (res_t age-kinds.r κs).Denot)
     (s t : AtExit (ended_of 1 age-kinds.ps age-kinds.r) κs)
     → age-reads.Post κs a x s → age-reads.Post κs a y t → (x ≡ y)
     × (view s.0.now ≡ view t.0.now) × Stands s.0.now t.0.now
-age_one κs a x y s t p q = (p.1.0 ∙ sym q.1.0, p.0 ∙ sym q.0, stands_one p.1.1 q.1.1)
+age_one κs a x y s t p q = (p.1.0 ∙ sym q.1.0, p.0 ∙ sym q.0, stands_one p.1.1.0 q.1.1.0)
 
 -- two outcomes are the same: The faces with a request
 pub asking_faces_one : (κs : Lfts 1) (a : Dens κs asking-faces-kinds.ps) (x y : (res_t asking-faces-kinds.r κs).Denot)

@@ -20,6 +20,7 @@ ghost use Rattle.pending_records.specs.Operations.{overdue_faces, nacks_in, nack
 ghost use Rattle.records.specs.Closing.{own_line_by};
 ghost use Rattle.rows.specs.Lent.{lent};
 ghost use Rattle.pending_table.specs.Places.View.{view, place_of, marks_of, entry_at, Stands};
+ghost use Rattle.pending_table.specs.Places.Stays.{NamesStay, RecordsStay};
 ghost use Rattle.pending_handle.specs.Operations.{is_due};
 
 use dead::Dead;
@@ -33,6 +34,7 @@ pub fn renew(p: &mut Pending, h: Handle, face: usize, nonce: u64, expiry: u64)
     ensures changed { view p.new
         ≡ on_at (place_of p.old h) (asking face (record { nonce = nonce; expiry = expiry })) (view p.old) }
     ensures stands { Stands p.old p.new }
+    ensures names { NamesStay p.old p.new }
 {
     if let Some(row) = p.row_of(h) {
         pending_entry::renew(&mut p.heads[row], &mut p.recs[row], face, nonce, expiry);
@@ -44,6 +46,7 @@ pub fn end_requests(p: &mut Pending, h: Handle, set: u64)
     ensures changed { view p.new
         ≡ on_at (place_of p.old h) (ending (has_face most_faces set)) (view p.old) }
     ensures stands { Stands p.old p.new }
+    ensures records { RecordsStay p.old p.new }
 {
     if let Some(row) = p.row_of(h) {
         pending_entry::end_requests(&mut p.heads[row], &p.recs[row], set);
@@ -56,6 +59,7 @@ pub fn send(p: &mut Pending, h: Handle, face: usize, nonce: u64, time: u64)
         ≡ on_at (place_of p.old h) (sending face (record { nonce = nonce; time = time; nacked = none }))
         (view p.old) }
     ensures stands { Stands p.old p.new }
+    ensures names { NamesStay p.old p.new }
 {
     if let Some(row) = p.row_of(h) {
         pending_entry::send(&mut p.heads[row], &mut p.recs[row], face, nonce, time);
@@ -67,6 +71,7 @@ pub fn end_sent(p: &mut Pending, h: Handle, face: usize)
     ensures changed { view p.new ≡ on_at (place_of p.old h) (not_sent face)
         (view p.old) }
     ensures stands { Stands p.old p.new }
+    ensures records { RecordsStay p.old p.new }
 {
     if let Some(row) = p.row_of(h) {
         pending_entry::end_sent(&mut p.heads[row], &p.recs[row], face);
@@ -78,6 +83,8 @@ pub fn mark_nacked(p: &mut Pending, h: Handle, face: usize, reason: u64)
     ensures changed { view p.new
         ≡ on_at (place_of p.old h) (with_nack face reason) (view p.old) }
     ensures stands { Stands p.old p.new }
+    ensures names { NamesStay p.old p.new }
+    ensures heads { p.new.heads ≡ p.old.heads }
 {
     if let Some(row) = p.row_of(h) {
         pending_entry::mark_nacked(&p.heads[row], &mut p.recs[row], face, reason);
@@ -90,6 +97,7 @@ pub fn age(p: &mut Pending, h: Handle, time: u64) -> u64
         (aged_entry time) (view p.old) }
     ensures overdue { result ≡ given 0 (overdue_faces most_faces time) (entry_at p.old h) }
     ensures stands { Stands p.old p.new }
+    ensures records { RecordsStay p.old p.new }
 {
     match p.row_of(h) {
         Some(row) => pending_records::age(&mut p.heads[row], &p.recs[row], time),

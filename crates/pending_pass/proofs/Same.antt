@@ -48,7 +48,7 @@ pub age_same : (κs : Lfts 3) (a b : Dens κs age-kinds.ps) (x y : (res_t age-ki
     × (dead.view s.1.0.now ≡ dead.view t.1.0.now)
     × (x ≡ y)
     × (s.1.1.0.now ≡ t.1.1.0.now)
-age_same κs a b x y s t e l r k n p q = ages_same k n e l r p q
+age_same κs a b x y s t e l r k n p q = ages_same k n e l r p.0 q.0
 
 -- closing a face
 pub close_face_same : (κs : Lfts 3) (a b : Dens κs close-kinds.ps) (x y : (res_t close-kinds.r κs).Denot)
@@ -65,7 +65,7 @@ pub close_face_same : (κs : Lfts 3) (a b : Dens κs close-kinds.ps) (x y : (res
     × (dead.view s.1.0.now ≡ dead.view t.1.0.now)
     × (x ≡ y)
     × (s.1.1.0.now ≡ t.1.1.0.now)
-close_face_same κs a b x y s t e l r k n m f p q = closes_same k n e l r m f p q
+close_face_same κs a b x y s t e l r k n m f p q = closes_same k n e l r m f p.0 q.0
 
 -- Data
 pub satisfy_same : (κs : Lfts 5) (a b : Dens κs satisfy-kinds.ps) (x y : (res_t satisfy-kinds.r κs).Denot)
@@ -86,4 +86,4 @@ pub satisfy_same : (κs : Lfts 5) (a b : Dens κs satisfy-kinds.ps) (x y : (res_
     × (s.1.1.0.now ≡ t.1.1.0.now)
     × (s.1.1.1.1.1.1.1.1.1.0.now ≡ t.1.1.1.1.1.1.1.1.1.0.now)
     × (x.copies ≡ y.copies)
-satisfy_same κs a b x y s t e l r k n m f d w p q = satisfies_same k n e l r m f d w p q
+satisfy_same κs a b x y s t e l r k n m f d w p q = satisfies_same k n e l r m f d w p.0 q.0

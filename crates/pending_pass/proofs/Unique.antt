@@ -36,7 +36,7 @@ pub leave_if_idle_none : (κs : Lfts 2) (a : Dens κs leave-kinds.ps) (x y : (re
     → entry_at a.0.now a.1.0 ≡ none
     → leave-reads.Post κs a x s → leave-reads.Post κs a y t
     → (s.0.now ≡ t.0.now) × (s.1.1.0.now ≡ t.1.1.0.now)
-leave_if_idle_none κs a x y s t f p q = ((p.1 f).0 ∙ sym (q.1 f).0, (p.1 f).1 ∙ sym (q.1 f).1)
+leave_if_idle_none κs a x y s t f p q = ((p.1.0 f).0 ∙ sym (q.1.0 f).0, (p.1.0 f).1 ∙ sym (q.1.0 f).1)
 
 -- two outcomes of ageing
 pub age_one : (κs : Lfts 3) (a : Dens κs age-kinds.ps) (x y : (res_t age-kinds.r κs).Denot)
@@ -46,7 +46,7 @@ pub age_one : (κs : Lfts 3) (a : Dens κs age-kinds.ps) (x y : (res_t age-kinds
     × (dead.view s.1.0.now ≡ dead.view t.1.0.now)
     × (x ≡ y)
     × (s.1.1.0.now ≡ t.1.1.0.now)
-age_one κs a x y s t p q = ages_same refl refl refl refl refl p q
+age_one κs a x y s t p q = ages_same refl refl refl refl refl p.0 q.0
 
 -- two outcomes of closing a face
 pub close_face_one : (κs : Lfts 3) (a : Dens κs close-kinds.ps) (x y : (res_t close-kinds.r κs).Denot)
@@ -56,7 +56,7 @@ pub close_face_one : (κs : Lfts 3) (a : Dens κs close-kinds.ps) (x y : (res_t 
     × (dead.view s.1.0.now ≡ dead.view t.1.0.now)
     × (x ≡ y)
     × (s.1.1.0.now ≡ t.1.1.0.now)
-close_face_one κs a x y s t p q = closes_same refl refl refl refl refl refl refl p q
+close_face_one κs a x y s t p q = closes_same refl refl refl refl refl refl refl p.0 q.0
 
 -- two outcomes of Data
 pub satisfy_one : (κs : Lfts 5) (a : Dens κs satisfy-kinds.ps) (x y : (res_t satisfy-kinds.r κs).Denot)
@@ -68,4 +68,4 @@ pub satisfy_one : (κs : Lfts 5) (a : Dens κs satisfy-kinds.ps) (x y : (res_t s
     × (s.1.1.0.now ≡ t.1.1.0.now)
     × (s.1.1.1.1.1.1.1.1.1.0.now ≡ t.1.1.1.1.1.1.1.1.1.0.now)
     × (x.copies ≡ y.copies)
-satisfy_one κs a x y s t p q = satisfies_same refl refl refl refl refl refl refl refl refl p q
+satisfy_one κs a x y s t p q = satisfies_same refl refl refl refl refl refl refl refl refl p.0 q.0

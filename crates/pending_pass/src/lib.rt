@@ -11,12 +11,13 @@ ghost use Rattle.names.specs.Fingerprint.{fingerprint};
 ghost use Rattle.records.specs.Entry.{Entry};
 ghost use Rattle.dead.specs.Places.View as dead;
 ghost use Rattle.pending_table.specs.Places.View.{view, place_of, entry_at, marks_of};
+ghost use Rattle.pending_table.specs.Places.Stays.{RecordsStay, RowsStay};
 ghost use Rattle.pending_pass.specs.Ages.{Ages};
 ghost use Rattle.pending_pass.specs.Lowest.{meets_own};
 ghost use Rattle.pending_pass.specs.Satisfies.{data_fate, Satisfies};
 ghost use Rattle.pending_pass.specs.Closes.{Closes};
 ghost use Rattle.pending_pass.specs.Places.Pass.{Work, marked, Turned, Leaves, Passes};
-ghost use Rattle.pending_pass.specs.Places.Turns.{Turns};
+ghost use Rattle.pending_pass.specs.Places.Turns.{Turns, Keeps};
 ghost use Rattle.pending_pass.specs.Places.Works.{ageing_work, satisfying_work, closing_work};
 ghost use Rattle.pending_pass.specs.Places.Lowering.{lower_word, Lowers, Lowest};
 
@@ -52,10 +53,12 @@ fn pass<F: Fn(&mut Pending, Handle, &mut Dead, &mut Rows, usize) -> usize>(
 ) -> usize
     requires callable { F.IsAlwaysCallable turn }
     requires turns { (w : Work) × Turns (F.post turn) w }
-    ensures { (w : Work) → Turns (F.post turn) w
+    ensures passes { (w : Work) → Turns (F.post turn) w
         → Passes w (marks_of p.old chosen)
         (view p.old) (dead.view nonces.old) rows.old made
         (view p.new) (dead.view nonces.new) rows.new result }
+    ensures records { Keeps (F.post turn) RecordsStay → RecordsStay p.old p.new }
+    ensures rows { Keeps (F.post turn) RowsStay → RowsStay p.old p.new }
 {
     let mut left = chosen;
     let mut noted = made;
@@ -76,6 +79,7 @@ pub fn leave_if_idle(p: &mut Pending, h: Handle, nonces: &mut Dead, start: u64, 
         (view p.new) (marks_of p.new)
         (dead.view nonces.new) }
     ensures absent { entry_at p.old h ≡ none → (p.new ≡ p.old) × (nonces.new ≡ nonces.old) }
+    ensures rows { RowsStay p.old p.new }
 {
     if p.is_there(h) {
         if is_idle(p, h) {
@@ -95,13 +99,14 @@ fn age_turn(
     start: u64,
     time: u64,
 ) -> usize
-    ensures { (e : Entry) → entry_at p.old h ≡ some e
+    ensures turned { (e : Entry) → entry_at p.old h ≡ some e
         → Turned (ageing_work (fingerprint start) time) (place_of p.old h) e
         (view p.old) (marks_of p.old)
         (dead.view nonces.old) rows.old made
         (view p.new) (marks_of p.new)
         (dead.view nonces.new)
         rows.new result }
+    ensures records { RecordsStay p.old p.new }
 {
     let over = overdue(p, h, time);
     let noted = note_requests(p, h, rows, made, over, Fate::Expired);
@@ -113,10 +118,11 @@ fn age_turn(
 // "A request lives while time < arrival + lifetime; the rest end as expired .. An entry without requests leaves. Entries leave oldest
 // opening first."
 pub fn age(p: &mut Pending, nonces: &mut Dead, rows: &mut Rows, start: u64, time: u64) -> usize
-    ensures { Ages (fingerprint start) time
+    ensures ages { Ages (fingerprint start) time
         (view p.old) (dead.view nonces.old) rows.old
         (view p.new)
         (dead.view nonces.new) rows.new result }
+    ensures records { RecordsStay p.old p.new }
 {
     let chosen = overdue_entries(p, time);
     pass(p, chosen, nonces, rows, 0, |p, h, nonces, rows, made| {
@@ -136,13 +142,14 @@ fn close_turn(
     time: u64,
     face: usize,
 ) -> usize
-    ensures { (e : Entry) → entry_at p.old h ≡ some e
+    ensures turned { (e : Entry) → entry_at p.old h ≡ some e
         → Turned (closing_work (fingerprint start) time face) (place_of p.old h) e
         (view p.old) (marks_of p.old)
         (dead.view nonces.old) rows.old made
         (view p.new) (marks_of p.new)
         (dead.view nonces.new)
         rows.new result }
+    ensures records { RecordsStay p.old p.new }
 {
     bury_face(p, h, nonces, start, time, face);
     let noted = note_face(p, h, rows, made, face, Fate::Closed);
@@ -163,10 +170,11 @@ pub fn close_face(
     time: u64,
     face: usize,
 ) -> usize
-    ensures { Closes (fingerprint start) time face
+    ensures closes { Closes (fingerprint start) time face
         (view p.old) (dead.view nonces.old) rows.old made
         (view p.new)
         (dead.view nonces.new) rows.new result }
+    ensures records { RecordsStay p.old p.new }
 {
     let chosen = p.all();
     pass(p, chosen, nonces, rows, made, |p, h, nonces, rows, made| {
@@ -193,13 +201,14 @@ fn meet_turn(
     face: usize,
     adhoc: bool,
 ) -> usize
-    ensures { (e : Entry) → entry_at p.old h ≡ some e
+    ensures turned { (e : Entry) → entry_at p.old h ≡ some e
         → Turned (satisfying_work (fingerprint start) time (data_fate face adhoc)) (place_of p.old h) e
         (view p.old) (marks_of p.old)
         (dead.view nonces.old) rows.old made
         (view p.new) (marks_of p.new)
         (dead.view nonces.new)
         rows.new result }
+    ensures rows { RowsStay p.old p.new }
 {
     let asked = asking_faces(p, h);
     let met = self_met(face, adhoc);
@@ -273,11 +282,12 @@ pub fn satisfy(
     adhoc: bool,
     classes: &mut Classes,
 ) -> Satisfied
-    ensures { Satisfies (fingerprint start) time face adhoc name.now
+    ensures satisfies { Satisfies (fingerprint start) time face adhoc name.now
         (view p.old) (dead.view nonces.old) rows.old made
         (view p.new)
         (dead.view nonces.new) rows.new result.made
         classes.new result.copies }
+    ensures rows { RowsStay p.old p.new }
 {
     let chosen = p.matching(name);
     let asked = lowest_classes(p, chosen, classes);

@@ -22,7 +22,7 @@ ghost use Rattle.pending_records.specs.Places.Walk.{is_over, column_at, newest_i
 
 use dead::Dead;
 use faces::{Walk, add, common, has, less};
-use happenings::{Fate, Rows, note};
+use happenings::{Fate, Rows, note_fate};
 use names::fingerprint_from;
 use pending_entry::{
     ASKING, CLASS, EXPIRY, Head, LENGTH, NACK, NONCE, Records, SENT, SENT_NONCE, SENT_TIME,
@@ -198,7 +198,7 @@ pub fn note_by_face(
     for f in Walk::of(common(head[ASKING], set)) {
         let told = if has(special, f) { own } else { fate };
         let row = &recs[f - 1];
-        next = note(rows, next, f, head[CLASS], told, row[NONCE], row[EXPIRY]);
+        next = note_fate(rows, next, f, head[CLASS], told, row[NONCE], row[EXPIRY]);
     }
     next
 }
@@ -233,7 +233,7 @@ pub fn note_face(
 {
     if has(head[ASKING], face) {
         let row = &recs[face - 1];
-        note(rows, at, face, head[CLASS], fate, row[NONCE], row[EXPIRY])
+        note_fate(rows, at, face, head[CLASS], fate, row[NONCE], row[EXPIRY])
     } else {
         at
     }

@@ -79,7 +79,7 @@ pub open_same : (κs : Lfts 2) (a b : Dens κs open-kinds.ps) (x y : (res_t open
     → open-reads.Post κs a x s → open-reads.Post κs b y t
     → (ltb (place_of s.0.now x) (length (view s.0.now)) ≡ ltb (place_of t.0.now y) (length (view t.0.now)))
     × (view s.0.now ≡ view t.0.now) × (place_of s.0.now x ≡ place_of t.0.now y)
-open_same κs a b x y s t e n f m c p q = opened_same (bare_same most_faces n f m c) e p q
+open_same κs a b x y s t e n f m c p q = opened_same (bare_same most_faces n f m c) e p.0 q.0
 
 -- an entry taken out
 pub take_out_same : (κs : Lfts 1) (a b : Dens κs take-out-kinds.ps) (x y : (res_t take-out-kinds.r κs).Denot)
@@ -87,7 +87,7 @@ pub take_out_same : (κs : Lfts 1) (a b : Dens κs take-out-kinds.ps) (x y : (re
     → (view a.0.now ≡ view b.0.now) → (place_of a.0.now a.1.0 ≡ place_of b.0.now b.1.0)
     → take-out-reads.Post κs a x s → take-out-reads.Post κs b y t
     → view s.0.now ≡ view t.0.now
-take_out_same κs a b x y s t e h p q = taken_same h e p q
+take_out_same κs a b x y s t e h p q = taken_same h e p.0 q.0
 
 -- the name of an entry
 pub name_of_same : (κs : Lfts 1) (a b : Dens κs name-of-kinds.ps) (x y : (res_t name-of-kinds.r κs).Denot)

@@ -57,7 +57,7 @@ pub clear_one : (κs : Lfts 1) (a : Dens κs clear-kinds.ps) (x y : (res_t clear
     (s t : AtExit (ended_of 1 clear-kinds.ps clear-kinds.r) κs)
     → clear-reads.Post κs a x s → clear-reads.Post κs a y t
     → view s.0.now ≡ view t.0.now
-clear_one κs a x y s t p q = p ∙ sym q
+clear_one κs a x y s t p q = p.0 ∙ sym q.0
 
 -- two answers how many entries there are are the same
 pub size_one : (κs : Lfts 1) (a : Dens κs size-kinds.ps) (x y : (res_t size-kinds.r κs).Denot)
@@ -94,7 +94,7 @@ pub open_one : (κs : Lfts 2) (a : Dens κs open-kinds.ps) (x y : (res_t open-ki
     → (ltb (place_of s.0.now x) (length (view s.0.now)) ≡ ltb (place_of t.0.now y) (length (view t.0.now)))
     × (view s.0.now ≡ view t.0.now) × (place_of s.0.now x ≡ place_of t.0.now y)
     × ((h : Handle) → place_of a.0.now h < length (view a.0.now) → place_of s.0.now h ≡ place_of t.0.now h)
-open_one κs a x y s t p q = opened_one p q
+open_one κs a x y s t p q = opened_one p.0 q.0
 
 -- two tables without an entry have the same entries, places and marks
 pub take_out_one : (κs : Lfts 1) (a : Dens κs take-out-kinds.ps) (x y : (res_t take-out-kinds.r κs).Denot)
@@ -102,7 +102,7 @@ pub take_out_one : (κs : Lfts 1) (a : Dens κs take-out-kinds.ps) (x y : (res_t
     → take-out-reads.Post κs a x s → take-out-reads.Post κs a y t
     → (view s.0.now ≡ view t.0.now) × ((h : Handle) → place_of s.0.now h ≡ place_of t.0.now h)
     × ((c : Chosen) → marks_of s.0.now c ≡ marks_of t.0.now c)
-take_out_one κs a x y s t p q = taken_one p q
+take_out_one κs a x y s t p q = taken_one p.0 q.0
 
 -- two names of an entry have the same bytes
 pub name_of_one : (κs : Lfts 1) (a : Dens κs name-of-kinds.ps) (x y : (res_t name-of-kinds.r κs).Denot)

@@ -3,3 +3,4 @@ pub mod Room
 pub mod Same
 pub mod Handle
 pub mod Held
+pub mod Stays

@@ -16,6 +16,7 @@ ghost use Rattle.pending_entry.specs.Places.View as entry;
 ghost use Rattle.pending_entry.specs.Operations.{bare_entry};
 ghost use Rattle.pending_table.specs.Places.View.{view, state, row_held, place_of, entry_at, handle_of, marks_of};
 ghost use Rattle.pending_table.specs.Places.Room.{counting, all_of, room_of};
+ghost use Rattle.pending_table.specs.Places.Stays.{RowsStay};
 ghost use Rattle.pending_table.specs.Operations.{Finds, Opens, TakesOut, nothing, facts_of, uses_of};
 
 use names::{is_prefix, same};
@@ -45,7 +46,7 @@ const MONITORING_RESERVE: u64 = 16;
 const BULK_RESERVE: u64 = 8;
 
 // The table: for each row a name, a head, records and the number of its opening; and the rows that are used, a bit each.
-#[derive(Drop)]
+#[derive(Clone, Copy)]
 pub struct Pending {
     pub names: Names,
     pub heads: Heads,
@@ -153,9 +154,10 @@ impl Pending {
         }
     }
 
-    // No entries, whatever the memory holds.
+    // No entries, whatever the memory holds; all but which rows are used stays.
     pub fn clear(&mut self)
-        ensures { view self.new ≡ [] }
+        ensures empty { view self.new ≡ [] }
+        ensures rows { RowsStay self.old self.new }
     {
         self.used = 0;
     }
@@ -198,8 +200,9 @@ impl Pending {
     // A new entry, without records, after the others: its handle. A 65th entry, or a name over 255 bytes, changes nothing, and the handle
     // is that of no entry.
     pub fn open(&mut self, name: &[u8], prefix: bool, fresh: bool, class: u64) -> Handle
-        ensures { Opens result (bare_entry most_faces name.now prefix fresh (class_of class)) (view self.old) (view self.new)
+        ensures opens { Opens result (bare_entry most_faces name.now prefix fresh (class_of class)) (view self.old) (view self.new)
             (place_of self.old) (place_of self.new) (marks_of self.old) (marks_of self.new) }
+        ensures records { self.new.recs ≡ self.old.recs }
     {
         let row = free(self.used);
         if row < ENTRIES && put_bytes(&mut self.names[row], 0, name).is_some() {
@@ -213,8 +216,9 @@ impl Pending {
 
     // Takes the entry of a handle out; a handle of no entry changes nothing.
     pub fn take_out(&mut self, h: Handle)
-        ensures { TakesOut h (view self.old) (view self.new) (place_of self.old) (place_of self.new) (marks_of self.old)
+        ensures taken { TakesOut h (view self.old) (view self.new) (place_of self.old) (place_of self.new) (marks_of self.old)
             (marks_of self.new) }
+        ensures rows { RowsStay self.old self.new }
     {
         self.used = remove(self.used, h.row);
     }

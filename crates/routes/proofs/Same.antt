@@ -40,7 +40,7 @@ pub clear_same : (κs : Lfts 1) (a b : Dens κs clear-kinds.ps) (x y : (res_t cl
     (s t : AtExit (ended_of 1 clear-kinds.ps clear-kinds.r) κs)
     → clear-reads.Post κs a x s → clear-reads.Post κs b y t
     → (count_of s.0.now ≡ count_of t.0.now) × (view s.0.now ≡ view t.0.now)
-clear_same κs a b x y s t p q = (p.1 ∙ sym q.1, p.0 ∙ sym q.0)
+clear_same κs a b x y s t p q = (p.1.0 ∙ sym q.1.0, p.0 ∙ sym q.0)
 
 -- the route of a prefix
 pub find_same : (κs : Lfts 2) (a b : Dens κs find-kinds.ps) (x y : (res_t find-kinds.r κs).Denot)
@@ -71,7 +71,7 @@ pub set_same : (κs : Lfts 2) (a b : Dens κs set-kinds.ps) (x y : (res_t set-ki
 set_same κs a b x y s t v e f p q =
     let said = rw (v, e) at p.0.said ∙ sym q.0.said in
     let left = rw (v, e, f) at p.0.left ∙ sym q.0.left in
-    (said, p.1 ∙ ap length left ∙ sym q.1, left)
+    (said, p.1.0 ∙ ap length left ∙ sym q.1.0, left)
 
 -- a route that is removed
 pub remove_same : (κs : Lfts 1) (a b : Dens κs remove-kinds.ps) (x y : (res_t remove-kinds.r κs).Denot)

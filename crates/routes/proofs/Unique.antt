@@ -1,5 +1,5 @@
 -- One outcome for each input of each public function: any two that its contract admits are equal, and leave the same routes. Rows past the
--- last route, bytes past a prefix, and costs of faces that are no hop are not fixed.
+-- last route, bytes past a prefix, and costs of faces that are no hop are fixed only where the contract says outright that they stay.
 -- Assumes nothing.
 use mathlib.Core.Path.{◌≡◌, refl, sym, ◌∙◌}
 use contract.Lifetimes.{Lfts}
@@ -77,13 +77,13 @@ remove_one κs a x y s t p q = same.remove_same κs a a x y s t refl refl p q
 pub add_hop_one : (κs : Lfts 1) (a : Dens κs add-hop-kinds.ps) (x y : (res_t add-hop-kinds.r κs).Denot)
     (s t : AtExit (ended_of 1 add-hop-kinds.ps add-hop-kinds.r) κs)
     → add-hop-reads.Post κs a x s → add-hop-reads.Post κs a y t → (count_of s.0.now ≡ count_of t.0.now) × (view s.0.now ≡ view t.0.now)
-add_hop_one κs a x y s t p q = (p.1 ∙ sym q.1, same.add_hop_same κs a a x y s t refl refl refl refl p q)
+add_hop_one κs a x y s t p q = (p.1.0 ∙ sym q.1.0, same.add_hop_same κs a a x y s t refl refl refl refl p q)
 
 -- two outcomes of dropping a hop leave the same routes
 pub drop_hop_one : (κs : Lfts 1) (a : Dens κs drop-hop-kinds.ps) (x y : (res_t drop-hop-kinds.r κs).Denot)
     (s t : AtExit (ended_of 1 drop-hop-kinds.ps drop-hop-kinds.r) κs)
     → drop-hop-reads.Post κs a x s → drop-hop-reads.Post κs a y t → (count_of s.0.now ≡ count_of t.0.now) × (view s.0.now ≡ view t.0.now)
-drop_hop_one κs a x y s t p q = (p.1 ∙ sym q.1, same.drop_hop_same κs a a x y s t refl refl refl p q)
+drop_hop_one κs a x y s t p q = (p.1.0 ∙ sym q.1.0, same.drop_hop_same κs a a x y s t refl refl refl p q)
 
 -- two answers whether a face is a hop are the same
 pub has_hop_one : (κs : Lfts 1) (a : Dens κs has-hop-kinds.ps) (x y : (res_t has-hop-kinds.r κs).Denot)
@@ -95,7 +95,7 @@ has_hop_one κs a x y s t p q = same.has_hop_same κs a a x y s t refl refl refl
 pub drop_face_one : (κs : Lfts 1) (a : Dens κs drop-face-kinds.ps) (x y : (res_t drop-face-kinds.r κs).Denot)
     (s t : AtExit (ended_of 1 drop-face-kinds.ps drop-face-kinds.r) κs)
     → drop-face-reads.Post κs a x s → drop-face-reads.Post κs a y t → (count_of s.0.now ≡ count_of t.0.now) × (view s.0.now ≡ view t.0.now)
-drop_face_one κs a x y s t p q = (p.1 ∙ sym q.1, same.drop_face_same κs a a x y s t refl refl p q)
+drop_face_one κs a x y s t p q = (p.1.0 ∙ sym q.1.0, same.drop_face_same κs a a x y s t refl refl p q)
 
 -- two longest matching routes are the same
 pub longest_one : (κs : Lfts 2) (a : Dens κs longest-kinds.ps) (x y : (res_t longest-kinds.r κs).Denot)

@@ -2,3 +2,4 @@ pub mod Bridge
 pub mod Hop
 pub mod Longest
 pub mod Setting
+pub mod Stays

@@ -1,3 +1,4 @@
 pub mod View
 pub mod Hop
 pub mod Longest
+pub mod Stays

@@ -11,6 +11,7 @@ ghost use Rattle.records.specs.Slots.{is_some, given};
 ghost use Rattle.records.specs.Route.{route_of, new_route, with_hop, hop_at, cheapest_of};
 ghost use Rattle.routes.specs.Places.View.{view, placed, found, count_of, route_row};
 ghost use Rattle.faces.specs.Found.{face_in};
+ghost use Rattle.routes.specs.Places.Stays.{PrefixesStay, CostsStay, RowsStay};
 ghost use Rattle.routes.specs.Places.Hop.{least_of};
 ghost use Rattle.routes.specs.Operations.{Sets, longest_at, hops_of, class_word};
 
@@ -24,17 +25,17 @@ use wire::put_bytes;
 // that are its next hops, and the cost of each.
 #[derive(Clone, Copy)]
 pub struct Row {
-    name: [u8; NAME],
-    len: u64,
-    class: u64,
-    hops: u64,
-    costs: [u64; FACES],
+    pub name: [u8; NAME],
+    pub len: u64,
+    pub class: u64,
+    pub hops: u64,
+    pub costs: [u64; FACES],
 }
 
 // The routes ("Routes 32"), and how many there are. Nobody above reads its fields.
-#[derive(Drop)]
+#[derive(Clone, Copy)]
 pub struct Routes {
-    rows: [Row; ROUTES],
+    pub rows: [Row; ROUTES],
     count: usize,
 }
 
@@ -55,7 +56,8 @@ impl Row {
     // Makes the row that of a new route. No face is in its set, so that its costs may be anything.
     fn start(&mut self, prefix: &[u8], class: u64)
         requires { length prefix.now ≤ most_name }
-        ensures { route_row most_faces self.new ≡ new_route most_faces prefix.now (class_of class) }
+        ensures starts { route_row most_faces self.new ≡ new_route most_faces prefix.now (class_of class) }
+        ensures costs { self.new.costs ≡ self.old.costs }
     {
         put_bytes(&mut self.name, 0, prefix);
         self.len = prefix.len() as u64;
@@ -65,7 +67,8 @@ impl Row {
 
     // Puts a hop in, or changes its cost; a number that is no face changes nothing.
     fn add_hop(&mut self, face: usize, cost: u64)
-        ensures { route_row most_faces self.new ≡ with_hop face (some cost) (route_row most_faces self.old) }
+        ensures changed { route_row most_faces self.new ≡ with_hop face (some cost) (route_row most_faces self.old) }
+        ensures name { self.new.name ≡ self.old.name }
     {
         if 0 < face && face <= FACES {
             self.hops = faces::add(self.hops, face);
@@ -75,7 +78,9 @@ impl Row {
 
     // Drops a hop.
     fn drop_hop(&mut self, face: usize)
-        ensures { route_row most_faces self.new ≡ with_hop face none (route_row most_faces self.old) }
+        ensures changed { route_row most_faces self.new ≡ with_hop face none (route_row most_faces self.old) }
+        ensures name { self.new.name ≡ self.old.name }
+        ensures costs { self.new.costs ≡ self.old.costs }
     {
         self.hops = faces::remove(self.hops, face);
     }
@@ -132,6 +137,7 @@ impl Routes {
     pub fn clear(&mut self)
         ensures no_routes { view self.new ≡ [] }
         ensures counted { count_of self.new ≡ 0 }
+        ensures rows { RowsStay self.old self.new }
     {
         self.count = 0;
     }
@@ -159,6 +165,7 @@ impl Routes {
     pub fn set(&mut self, prefix: &[u8], class: u64) -> bool
         ensures sets { Sets most_faces result (view self.new) prefix.now (class_of class) (view self.old) }
         ensures counted { count_of self.new ≡ length (view self.new) }
+        ensures costs { CostsStay self.old self.new }
     {
         let known = self.find(prefix);
         self.count = self.count();
@@ -190,6 +197,7 @@ impl Routes {
     pub fn add_hop(&mut self, route: Handle, face: usize, cost: u64)
         ensures changed { view self.new ≡ on_at (placed self.old route) (with_hop face (some cost)) (view self.old) }
         ensures counted { count_of self.new ≡ count_of self.old }
+        ensures prefixes { PrefixesStay self.old self.new }
     {
         if route.at < self.count() {
             self.rows[route.at].add_hop(face, cost);
@@ -200,6 +208,8 @@ impl Routes {
     pub fn drop_hop(&mut self, route: Handle, face: usize)
         ensures changed { view self.new ≡ on_at (placed self.old route) (with_hop face none) (view self.old) }
         ensures counted { count_of self.new ≡ count_of self.old }
+        ensures prefixes { PrefixesStay self.old self.new }
+        ensures costs { CostsStay self.old self.new }
     {
         if route.at < self.count() {
             self.rows[route.at].drop_hop(face);
@@ -218,6 +228,8 @@ impl Routes {
     pub fn drop_face(&mut self, face: usize)
         ensures changed { view self.new ≡ map (with_hop face none) (view self.old) }
         ensures counted { count_of self.new ≡ count_of self.old }
+        ensures prefixes { PrefixesStay self.old self.new }
+        ensures costs { CostsStay self.old self.new }
     {
         for row in &mut self.rows {
             row.drop_hop(face);

@@ -3,6 +3,13 @@
 
 ghost use Rattle.std.specs.Prelude.{◌≡◌, min, take};
 
+// Whether what was to be put into a table fits, and how many rows there are then.
+#[derive(Clone, Copy)]
+pub struct Changed {
+    pub fits: bool,
+    pub count: usize,
+}
+
 // The first bytes of a row, as many as a length word says, all of them where it says more.
 pub fn part(row: &[u8], len: u64) -> &[u8]
     ensures { result.now ≡ take len row.now }

@@ -35,7 +35,7 @@ pub clear_one : (κs : Lfts 1) (a b : Dens κs clear-kinds.ps) (x y : (res_t cle
     (s t : AtExit (ended_of 1 clear-kinds.ps clear-kinds.r) κs)
     → clear-reads.Post κs a x s → clear-reads.Post κs b y t
     → (view s.0.now ≡ view t.0.now) × (count_of s.0.now ≡ count_of t.0.now)
-clear_one κs a b x y s t p q = (p.0 ∙ sym q.0, p.1 ∙ sym q.1)
+clear_one κs a b x y s t p q = (p.0 ∙ sym q.0, p.1.0 ∙ sym q.1.0)
 
 -- two answers whether a handle stands for a Data are the same
 pub is_there_one : (κs : Lfts 1) (a : Dens κs is-there-kinds.ps) (x y : (res_t is-there-kinds.r κs).Denot)

@@ -1,3 +1,4 @@
 pub mod Hits
 pub mod Look
 pub mod Put
+pub mod Stays

@@ -1,3 +1,4 @@
 pub mod View
 pub mod Look
 pub mod Put
+pub mod Stays

@@ -10,6 +10,7 @@ ghost use Rattle.std.proofs.Math.Option.{some};
 ghost use Rattle.store.specs.Places.View.{view, placed, found, count_of, data_of, stored_of};
 ghost use Rattle.store.specs.Operations.{Puts, Looks, recent};
 ghost use Rattle.store.specs.Places.Put.{is_named, leaver};
+ghost use Rattle.store.specs.Places.Stays.{RowsStay};
 ghost use Rattle.store.specs.Places.Look.{answers, in_time, hit, hit_at};
 
 use names::{compare, is_prefix, same};
@@ -21,16 +22,16 @@ use sizes::{PACKET, STORED};
 // it counts.
 #[derive(Clone, Copy)]
 pub struct Row {
-    packet: [u8; PACKET],
-    len: u64,
-    time: u64,
-    freshness: u64,
+    pub packet: [u8; PACKET],
+    pub len: u64,
+    pub time: u64,
+    pub freshness: u64,
 }
 
 // The Data ("stored Data 8"), and how many there are. Nobody above reads its fields.
-#[derive(Drop)]
+#[derive(Clone, Copy)]
 pub struct Store {
-    rows: [Row; STORED],
+    pub rows: [Row; STORED],
     count: usize,
 }
 
@@ -116,6 +117,7 @@ impl Store {
     pub fn clear(&mut self)
         ensures no_data { view self.new ≡ [] }
         ensures counted { count_of self.new ≡ 0 }
+        ensures rows { RowsStay self.old self.new }
     {
         self.count = 0;
     }

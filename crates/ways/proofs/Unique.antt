@@ -57,25 +57,24 @@ pub expiry_of_one : (κs : Lfts 0) (a : Dens κs expiry-of-kinds.ps) (x y : (res
 expiry_of_one κs a x y s t p q = p ∙ sym q
 
 -- two answers whether an Interest loops
-pub loops_one : (κs : Lfts 2) (a : Dens κs loops-kinds.ps) (x y : (res_t loops-kinds.r κs).Denot)
-    (s t : AtExit (ended_of 2 loops-kinds.ps loops-kinds.r) κs) → loops-reads.Post κs a x s → loops-reads.Post κs a y t → x ≡ y
+pub loops_one : (κs : Lfts 3) (a : Dens κs loops-kinds.ps) (x y : (res_t loops-kinds.r κs).Denot)
+    (s t : AtExit (ended_of 3 loops-kinds.ps loops-kinds.r) κs) → loops-reads.Post κs a x s → loops-reads.Post κs a y t → x ≡ y
 loops_one κs a x y s t p q =
-    let m = a.0.now in
     let n : Node = record {
       time = 0;
-      faces = faces.view m.faces;
+      faces = faces.view a.1.0;
       routes = [];
       pending = [];
       store = [];
-      dead = dead.view m.dead;
+      dead = dead.view a.1.1.1.0.now;
     } in
     let i : Arrival = record {
-      face = a.1.1.1.0;
+      face = a.1.1.1.1.1.1.0;
       ask = record {
-        name = a.1.1.1.1.0.now;
+        name = a.1.1.1.1.1.1.1.0.now;
         can_be_prefix = false;
         must_be_fresh = false;
-        nonce = a.1.1.1.1.1.0;
+        nonce = a.1.1.1.1.1.1.1.1.0;
         lifetime = 0;
         hop = none;
       };
@@ -84,28 +83,27 @@ loops_one κs a x y s t p q =
     p n i refl refl refl refl refl ∙ sym (q n i refl refl refl refl refl)
 
 -- two next hops
-pub next_hop_one : (κs : Lfts 2) (a : Dens κs next-hop-kinds.ps) (x y : (res_t next-hop-kinds.r κs).Denot)
-    (s t : AtExit (ended_of 2 next-hop-kinds.ps next-hop-kinds.r) κs) → next-hop-reads.Post κs a x s → next-hop-reads.Post κs a y t
+pub next_hop_one : (κs : Lfts 3) (a : Dens κs next-hop-kinds.ps) (x y : (res_t next-hop-kinds.r κs).Denot)
+    (s t : AtExit (ended_of 3 next-hop-kinds.ps next-hop-kinds.r) κs) → next-hop-reads.Post κs a x s → next-hop-reads.Post κs a y t
     → x ≡ y
 next_hop_one κs a x y s t p q =
-    let m = a.0.now in
     let n : Node = record {
       time = 0;
-      faces = faces.view m.faces;
-      routes = routes.view m.routes;
+      faces = faces.view a.1.0;
+      routes = routes.view a.1.1.0.now;
       pending = [];
       store = [];
       dead = [];
     } in
     let i : Arrival = record {
-      face = a.1.1.0;
+      face = a.1.1.1.1.1.0;
       ask = record {
-        name = a.1.1.1.0.now;
+        name = a.1.1.1.1.1.1.0.now;
         can_be_prefix = false;
         must_be_fresh = false;
         nonce = 0;
         lifetime = 0;
-        hop = limit_of a.1.1.1.1.0;
+        hop = limit_of a.1.1.1.1.1.1.1.0;
       };
       bytes = [];
     } in

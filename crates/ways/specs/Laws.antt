@@ -4,3 +4,4 @@ pub mod Loops
 pub mod Local
 pub mod Next
 pub mod Own
+pub mod Said

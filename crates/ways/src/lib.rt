@@ -22,7 +22,7 @@ ghost use Rattle.ways.specs.Ways.{loops_by, resends_by};
 ghost use Rattle.ways.specs.Places.Stays.{stays_local};
 ghost use Rattle.ways.specs.Places.Next.{next_of};
 
-use event::Memory;
+use dead::Dead;
 use faces::{Faces, common, remove};
 use packets::HopLimit;
 use pending_table::{Handle, Pending};
@@ -98,12 +98,22 @@ fn entry_loops(p: &Pending, h: Handle, faces: Faces, face: usize, nonce: u64) ->
 }
 
 // "LOOP: a live fingerprint equals this one; or the entry has the nonce": of the entry that a handle stands for, if it does.
-pub fn loops(m: &Memory, start: u64, h: Handle, face: usize, name: &[u8], nonce: u64) -> bool
-    ensures { (n : Node) (a : Arrival) → n.faces ≡ view m.now.faces → n.dead ≡ dead.view m.now.dead → a.face ≡ face
-        → a.ask.name ≡ name.now → a.ask.nonce ≡ nonce → result ≡ loops_by start m.now.time n a (entry_at m.now.pending h) }
+pub fn loops(
+    time: u64,
+    faces: Faces,
+    p: &Pending,
+    nonces: &Dead,
+    start: u64,
+    h: Handle,
+    face: usize,
+    name: &[u8],
+    nonce: u64,
+) -> bool
+    ensures { (n : Node) (a : Arrival) → n.faces ≡ view faces → n.dead ≡ dead.view nonces.now → a.face ≡ face
+        → a.ask.name ≡ name.now → a.ask.nonce ≡ nonce → result ≡ loops_by start time n a (entry_at p.now h) }
 {
     let print = names::fingerprint_from(start, name, nonce);
-    m.dead.is_dead(m.time, print) || entry_loops(&m.pending, h, m.faces, face, nonce)
+    nonces.is_dead(time, print) || entry_loops(p, h, faces, face, nonce)
 }
 
 // Whether some request of an entry is from a local face; a handle of no entry has none.
@@ -132,20 +142,23 @@ fn choose(known: &Routes, p: &Pending, h: Handle, name: &[u8], may: u64) -> Opti
 
 // The hop that a further Interest of an entry takes, if any: "If the newest out-record was sent under 100 ms ago, send nothing."
 pub fn next_hop(
-    m: &Memory,
+    time: u64,
+    faces: Faces,
+    known: &Routes,
+    p: &Pending,
     h: Handle,
     face: usize,
     name: &[u8],
     hop: Option<HopLimit>,
 ) -> Option<usize>
-    ensures { (n : Node) (a : Arrival) → n.faces ≡ view m.now.faces → n.routes ≡ routes.view m.now.routes
+    ensures { (n : Node) (a : Arrival) → n.faces ≡ view faces → n.routes ≡ routes.view known.now
         → a.face ≡ face → a.ask.name ≡ name.now → a.ask.hop ≡ limit_of hop
-        → face_in result ≡ resends_by m.now.time n a (entry_at m.now.pending h) }
+        → face_in result ≡ resends_by time n a (entry_at p.now h) }
 {
-    if pending_handle::is_suppressed(&m.pending, h, m.time) {
+    if pending_handle::is_suppressed(p, h, time) {
         return None;
     }
-    let local = is_from_local(&m.pending, h, m.faces);
-    let may = eligible(m.faces, face, hop, name, local);
-    choose(&m.routes, &m.pending, h, name, may)
+    let local = is_from_local(p, h, faces);
+    let may = eligible(faces, face, hop, name, local);
+    choose(known, p, h, name, may)
 }

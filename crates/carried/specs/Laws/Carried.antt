@@ -38,14 +38,14 @@ Keeps c =
 
 -- so does every call of one of the eight functions
 made_keeps : (c : Call) → Made c → Keeps c
-made_keeps c (calls.packet κs a x s p) = p
-made_keeps c (calls.clock κs a x s p) = p
-made_keeps c (calls.open_face κs a x s p) = p
-made_keeps c (calls.close_face κs a x s p) = p
-made_keeps c (calls.set_route κs a x s p) = p
-made_keeps c (calls.drop_route κs a x s p) = p
-made_keeps c (calls.add_hop κs a x s p) = p
-made_keeps c (calls.drop_hop κs a x s p) = p
+made_keeps c (calls.packet κs a x s p) = p.0
+made_keeps c (calls.clock κs a x s p) = p.0
+made_keeps c (calls.open_face κs a x s p) = p.0
+made_keeps c (calls.close_face κs a x s p) = p.0
+made_keeps c (calls.set_route κs a x s p) = p.0
+made_keeps c (calls.drop_route κs a x s p) = p.0
+made_keeps c (calls.add_hop κs a x s p) = p.0
+made_keeps c (calls.drop_hop κs a x s p) = p.0
 
 -- with a buffer that is too short nothing is sent
 short_silent : (e : Event) (n : Node) → e.room < least_buffer → (paper_step e n).sends ≡ []
@@ -148,7 +148,7 @@ rows_balance f hs m a =
 -- ANY CALLS, FROM CLEARED TABLES, SHOW WHAT DEMAND 3 ASKS
 pub carried : (m : Memory) (cs : List Call) (m' : Memory) → Cleared m → Calls m cs m' → Carried cs m'
 carried m cs m' cleared made =
-    let e : node_of m ≡ empty_node most_faces = ap node_of cleared.left ∙ cleared.kept in
+    let e : node_of m ≡ empty_node most_faces = ap node_of cleared.left ∙ cleared.kept.0 in
     let y = rw e at (carry m cs m' (rw e (empty_shaped most_faces)) made) in
     record {
       events = y.0;

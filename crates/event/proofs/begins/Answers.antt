@@ -1,5 +1,6 @@
 -- By the checks: a refusal leaves all as it was; past them ageing is what its contract says.
 use mathlib.Core.Path.{refl, sym, ◌∙◌}
+use Rattle.pending_table.specs.Laws.Stays.{records_stayed}
 use Rattle.event.specs.Laws.Allowed.{allowed_refuses, allowed_zero, allowed_passes}
 use Rattle.event.specs.Laws.Begins.{begins_refused, begins_aged}
 use Rattle.event.proofs.begins.Goals as goal
@@ -16,4 +17,15 @@ returns-in_err-check-clause-refused c =
 
 pub returns-clause-begun : goal.returns-clause-begun
 returns-clause-begun c =
-    begins_aged _ _ _ _ _ _ _ _ _ _ _ _ refl (allowed_zero _ _ (sym c.check.ensures ∙ c.in_ok-check.was)) refl c.age.ensures
+    begins_aged _ _ _ _ _ _ _ _ _ _ _ _ refl (allowed_zero _ _ (sym c.check.ensures ∙ c.in_ok-check.was)) refl c.age.ensures.ages
+
+-- ageing leaves the names, the records and the numbers, and no other table but the dead nonces is lent to it
+pub returns-clause-stays : goal.returns-clause-stays
+returns-clause-stays c = record { routes = refl; store = refl; pending = c.age.ensures.records }
+
+pub returns-in_err-check-clause-stays : goal.returns-in_err-check-clause-stays
+returns-in_err-check-clause-stays c = record { routes = refl; store = refl; pending = records_stayed _ }
+
+pub returns-in_err-check-clause-kept : goal.returns-in_err-check-clause-kept
+returns-in_err-check-clause-kept c =
+    rw (allowed_passes c.from_residual.result _ _ c.from_residual.ensures.1 (sym c.check.ensures ∙ c.in_err-check.was)) refl

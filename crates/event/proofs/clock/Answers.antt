@@ -4,11 +4,11 @@ use Rattle.event.specs.Laws.Comes.{comes_by, comes_is}
 use Rattle.event.specs.Places.Begins.{began}
 use Rattle.event.proofs.clock.Goals as goal
 
-pub returns-in-Ok : goal.returns-in-Ok
+pub returns-in-Ok-clause-stepped : goal.returns-in-Ok-clause-stepped
 unfolding began
-returns-in-Ok c = comes_by _ _ _ _ _ _ _ (clock_begins _ _ _ _ _) (comes_is _ _ _ _ _ _ _ c.quiet.ensures c.in-Ok.ensures.begun)
+returns-in-Ok-clause-stepped c = comes_by _ _ _ _ _ _ _ (clock_begins _ _ _ _ _) (comes_is _ _ _ _ _ _ _ c.quiet.ensures c.in-Ok.ensures.begun)
 
-pub returns-in-Err : goal.returns-in-Err
+pub returns-in-Err-clause-stepped : goal.returns-in-Err-clause-stepped
 unfolding began
-returns-in-Err c =
+returns-in-Err-clause-stepped c =
     comes_by _ _ _ _ _ _ _ (clock_begins _ _ _ _ _) (comes_is _ _ _ _ _ _ _ c.quiet-in-Err.ensures c.in-Err.ensures.begun)

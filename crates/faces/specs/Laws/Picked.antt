@@ -14,7 +14,6 @@ use Rattle.std.proofs.lemmas.Cmp.{ranked}
 use Rattle.std.proofs.iter.Yields.{gives_Drains}
 use Rattle.records.specs.Slots.{Held, held, given, less_by, least_by}
 use Rattle.records.specs.Laws.Least.{less_next, less_stays}
-use Rattle.sizes.specs.Sizes.{most_faces}
 use Rattle.faces.specs.Slots.{slots_of}
 use Rattle.faces.specs.Places.Gives.{Gives}
 use Rattle.faces.specs.Found.{face_in}
@@ -53,11 +52,11 @@ module _ {A F : Type 0} (g : ℕ → A) (by : Held A → ℕ) (call : Mut F (Bor
       least_found xs j.1 j.0.1 j.0.0 q y c.0 i.0 rest ∙ sym (i.1 (least_by by (map (held_at g) xs)))
 
   -- the face that is found is that of the least of all
-  pub walk_least : (s : Walk) (r : Option ℕ) → PicksMinByKey Gives call nat_cmp s f r
-      → face_in r ≡ given math.none (λ h. math.some h.face) (least_by by (held (slots_of most_faces s.left g)))
+  pub walk_least : (n : ℕ) (s : Walk) (r : Option ℕ) → PicksMinByKey (Gives n) call nat_cmp s f r
+      → face_in r ≡ given math.none (λ h. math.some h.face) (least_by by (held (slots_of n s.left g)))
   unfolding given least_by face_in
-  walk_least s None d = rw (← gives_Drains Gives (held_at g) [] _ s (walk_lists g s).runs d) refl
-  walk_least s (Some y) (x, xs, k, e, q, d, t, fold) =
+  walk_least n s None d = rw (← gives_Drains (Gives n) (held_at g) [] _ s (walk_lists g s).runs d) refl
+  walk_least n s (Some y) (x, xs, k, e, q, d, t, fold) =
       let c = known x k e t in
-      rw (← gives_Drains Gives (held_at g) (x ∷ xs) _ s (walk_lists g s).runs d)
+      rw (← gives_Drains (Gives n) (held_at g) (x ∷ xs) _ s (walk_lists g s).runs d)
       (ap (given math.none (λ h. math.some h.face)) (least_found xs x k e q y c.0 c.1 fold))

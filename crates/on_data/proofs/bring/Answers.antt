@@ -3,18 +3,18 @@ use mathlib.Core.Path.{refl}
 use Rattle.on_data.specs.Laws.Data.{brings_none, brings_some}
 use Rattle.on_data.proofs.bring.Goals as goal
 
-pub returns-then-size-stood : goal.returns-then-size-stood
-returns-then-size-stood c =
+pub returns-then-size-stood-clause-goes : goal.returns-then-size-stood-clause-goes
+returns-then-size-stood-clause-goes c =
     brings_none _ _ _ _ _ _ _ _ _ _ _ _ _ _
     c.requires.name_is
-    c.satisfy-met.ensures _ _
+    c.satisfy-met.ensures.satisfies _ _
     c.size.ensures c.size-stood.ensures _ _ _ c.if-size-stood.true c.quiet.ensures
 
-pub returns : goal.returns
-returns c =
+pub returns-clause-goes : goal.returns-clause-goes
+returns-clause-goes c =
     brings_some _ _ _ _ _ _ _ _ _ _ _ _ _ _
     c.requires.name_is
-    c.satisfy-met.ensures _ _
+    c.satisfy-met.ensures.satisfies _ _
     c.size.ensures c.size-stood.ensures _ _ _ _ _ _ _ _ _
     c.if-size-stood.false
     c.is_ad_hoc-adhoc.ensures
@@ -23,3 +23,9 @@ returns c =
     c.freshness_of.ensures
     c.put.ensures.puts
     c.send_copies.ensures refl
+
+pub returns-then-size-stood-clause-stays : goal.returns-then-size-stood-clause-stays
+returns-then-size-stood-clause-stays c = record { routes = refl; pending = c.satisfy-met.ensures.rows }
+
+pub returns-clause-stays : goal.returns-clause-stays
+returns-clause-stays c = record { routes = refl; pending = c.satisfy-met.ensures.rows }

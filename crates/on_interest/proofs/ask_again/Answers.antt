@@ -6,9 +6,9 @@ use Rattle.ways.specs.Laws.Own.{next_hop_own}
 use Rattle.on_interest.specs.Laws.Again.{facts_class, again_quiet, again_sends}
 use Rattle.on_interest.proofs.ask_again.Goals as goal
 
-pub returns-in_default : goal.returns-in_default
+pub returns-in_default-clause-goes : goal.returns-in_default-clause-goes
 unfolding face_in
-returns-in_default c e at =
+returns-in_default-clause-goes c e at =
     let a = c.args in
     let class_is = facts_class _ e _ at c.facts_of-class.ensures in
     let next = next_hop_own _ _ _ _ _ _ _ _ c.in_default.ensures in
@@ -17,9 +17,9 @@ returns-in_default c e at =
     c.expiry_of-expiry.ensures c.renew.ensures.changed (c.renew.ensures.stands.places _) next
     (c.note_opening-noted.ensures _ e at class_is) _ refl)
 
-pub returns : goal.returns
+pub returns-clause-goes : goal.returns-clause-goes
 unfolding face_in
-returns c e at =
+returns-clause-goes c e at =
     let a = c.args in
     let class_is = facts_class _ e _ at c.facts_of-class.ensures in
     let next = next_hop_own _ _ _ _ _ _ _ _ c.in-Some.ensures in
@@ -27,3 +27,9 @@ returns c e at =
     c.expiry_of-expiry.ensures c.renew.ensures.changed (c.renew.ensures.stands.places _) next
     (c.note_opening-noted.ensures _ e at class_is) _ _ _ _ _ _ _ refl
     class_is c.send.ensures.changed c.send_interest.ensures
+
+pub returns-in_default-clause-stays : goal.returns-in_default-clause-stays
+returns-in_default-clause-stays c = record { routes = refl; dead = refl }
+
+pub returns-clause-stays : goal.returns-clause-stays
+returns-clause-stays c = record { routes = refl; dead = refl }

@@ -11,4 +11,4 @@ returns-then-has c t e at w =
 pub returns-else-has : goal.returns-else-has
 returns-else-has c t e at w =
     noted_opened e _ _ _ _ _ t _ _ (view_wide most_faces _ _ _ _ _ _ e at).0 at c.asking_faces.ensures _ _ _ _ c.has.ensures
-    c.if-has.false w c.note.ensures
+    c.if-has.false w c.note_fate.ensures

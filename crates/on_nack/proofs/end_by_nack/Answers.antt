@@ -5,11 +5,13 @@ use Rattle.pending_table.specs.Places.View.{view_wide, view_said}
 use Rattle.pending_pass.specs.Laws.Turn.{leaves_stood}
 use Rattle.event.specs.Memory.{node_of}
 use Rattle.on_nack.specs.Laws.Turns.{turn_ends, facts_class}
+use Rattle.pending_table.specs.Laws.Stays.{records_then, rows_records, records_names}
+use Rattle.std.proofs.Math.Path.{refl}
 use Rattle.on_nack.proofs.end_by_nack.Goals as goal
 
-pub returns : goal.returns
+pub returns-clause-goes : goal.returns-clause-goes
 unfolding fate_in node_of
-returns c =
+returns-clause-goes c =
     let a = c.args in
     let s = c.end_requests.ensures.stands in
     λ e p known least.
@@ -18,3 +20,10 @@ returns c =
     c.common-peers.ensures (facts_class _ _ _ e c.facts_of-class.ensures p) _ _ _ c.send_nacks-sent.ensures _
     (c.note_requests-noted.ensures a.m.now.time) _ _ c.end_requests.ensures.changed _ _ _
     (λ x q. leaves_stood _ _ x _ _ _ _ _ _ _ a.h s (c.leave_if_idle.ensures.leaves x (rw (s.places a.h) q)))
+
+pub returns-clause-stays : goal.returns-clause-stays
+returns-clause-stays c = record {
+  routes = refl;
+  store = refl;
+  pending = records_names (records_then c.end_requests.ensures.records (rows_records c.leave_if_idle.ensures.rows));
+}

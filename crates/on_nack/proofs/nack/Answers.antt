@@ -9,11 +9,12 @@ use Rattle.coming.specs.Goes.{guard_says}
 use Rattle.coming.specs.Places.Found.{ask_found}
 use Rattle.coming.specs.Laws.Guard.{guard_holds}
 use Rattle.on_nack.specs.Laws.Goes.{goes_refused, goes_turns}
+use Rattle.pending_table.specs.Laws.Stays.{names_stayed}
 use Rattle.on_nack.proofs.nack.Goals as goal
 
-pub returns-in-Err : goal.returns-in-Err
+pub returns-in-Err-clause-goes : goal.returns-in-Err-clause-goes
 unfolding node_of
-returns-in-Err c =
+returns-in-Err-clause-goes c =
     let a = c.args in
     let n = node_of a.m.now in
     let e = sym c.guard.ensures ∙ c.in-Err.is in
@@ -27,11 +28,17 @@ take-requires c =
     let g = guard_holds _ _ _ _ c.find_name-name.ensures _ refl (allowed_zero _ _ (sym c.guard.ensures ∙ c.in_default.is)) in
     record { name_fits = g.short; buffer_fits = g.roomy }
 
-pub returns : goal.returns
+pub returns-clause-goes : goal.returns-clause-goes
 unfolding node_of ask_found
-returns c =
+returns-clause-goes c =
     let a = c.args in
     goes_turns _ a.made _ _ _ _ _ (node_of a.m.now) _
     (ap (λ (l : List ℕ). guard_says a.m.now.time (length a.out.now) (length a.bare.now) (length l)) c.find_name-name.ensures)
     _ _ (allowed_zero _ _ (sym c.guard.ensures ∙ c.in_default.is))
-    (c.take.ensures (ask_found a.bare.now a.i) (sym c.find_name-name.ensures) refl refl refl)
+    (c.take.ensures.goes (ask_found a.bare.now a.i) (sym c.find_name-name.ensures) refl refl refl)
+
+pub returns-in-Err-clause-stays : goal.returns-in-Err-clause-stays
+returns-in-Err-clause-stays c = record { routes = refl; store = refl; pending = names_stayed _ }
+
+pub returns-clause-stays : goal.returns-clause-stays
+returns-clause-stays c = c.take.ensures.stays

@@ -2,28 +2,29 @@
 use mathlib.Core.Path.{refl}
 use Rattle.event.specs.Memory.{node_of}
 use Rattle.on_nack.specs.Laws.Goes.{nack_scope, nack_other, nack_stale, nack_marked}
+use Rattle.pending_table.specs.Laws.Stays.{names_stayed}
 use Rattle.on_nack.proofs.take.Goals as goal
 
-pub returns-then-is_out_of_scope : goal.returns-then-is_out_of_scope
+pub returns-then-is_out_of_scope-clause-goes : goal.returns-then-is_out_of_scope-clause-goes
 unfolding node_of
-returns-then-is_out_of_scope c =
+returns-then-is_out_of_scope-clause-goes c =
     let a = c.args in
     let n = node_of a.m.now in
     λ q named prefix fresh own.
     nack_scope n a.made _ _ a.face a.reason q _ named _ (c.is_out_of_scope.ensures n refl) c.if-is_out_of_scope.true c.quiet.ensures
 
-pub returns-then-not-is_peer : goal.returns-then-not-is_peer
+pub returns-then-not-is_peer-clause-goes : goal.returns-then-not-is_peer-clause-goes
 unfolding node_of
-returns-then-not-is_peer c =
+returns-then-not-is_peer-clause-goes c =
     let a = c.args in
     let n = node_of a.m.now in
     λ q named prefix fresh own.
     nack_other n a.made _ _ a.face a.reason q _ named _ (c.is_out_of_scope.ensures n refl) _ c.is_peer.ensures
     c.if-is_out_of_scope.false c.if-not-is_peer.true c.quiet-then-not-is_peer.ensures
 
-pub returns-then-not-sent_nonce : goal.returns-then-not-sent_nonce
+pub returns-then-not-sent_nonce-clause-goes : goal.returns-then-not-sent_nonce-clause-goes
 unfolding node_of
-returns-then-not-sent_nonce c =
+returns-then-not-sent_nonce-clause-goes c =
     let a = c.args in
     let n = node_of a.m.now in
     λ q named prefix fresh own.
@@ -31,12 +32,24 @@ returns-then-not-sent_nonce c =
     c.if-is_out_of_scope.false c.if-not-is_peer.false _ _ _ prefix fresh own _ c.find-h.ensures.at _
     c.sent_nonce.ensures c.if-not-sent_nonce.true c.quiet-then-not-sent_nonce.ensures
 
-pub returns : goal.returns
+pub returns-clause-goes : goal.returns-clause-goes
 unfolding node_of
-returns c =
+returns-clause-goes c =
     let a = c.args in
     let n = node_of a.m.now in
     λ q named prefix fresh own.
     nack_marked n a.made _ _ a.face a.reason q _ named _ (c.is_out_of_scope.ensures n refl) _ c.is_peer.ensures
     c.if-is_out_of_scope.false c.if-not-is_peer.false _ _ _ prefix fresh own _ c.find-h.ensures.at _
-    c.sent_nonce.ensures c.if-not-sent_nonce.false _ _ c.mark.ensures
+    c.sent_nonce.ensures c.if-not-sent_nonce.false _ _ c.mark.ensures.goes
+
+pub returns-then-is_out_of_scope-clause-stays : goal.returns-then-is_out_of_scope-clause-stays
+returns-then-is_out_of_scope-clause-stays c = record { routes = refl; store = refl; pending = names_stayed _ }
+
+pub returns-then-not-is_peer-clause-stays : goal.returns-then-not-is_peer-clause-stays
+returns-then-not-is_peer-clause-stays c = record { routes = refl; store = refl; pending = names_stayed _ }
+
+pub returns-then-not-sent_nonce-clause-stays : goal.returns-then-not-sent_nonce-clause-stays
+returns-then-not-sent_nonce-clause-stays c = record { routes = refl; store = refl; pending = names_stayed _ }
+
+pub returns-clause-stays : goal.returns-clause-stays
+returns-clause-stays c = c.mark.ensures.stays

@@ -5,8 +5,11 @@ use Rattle.event.specs.Memory.{node_of}
 use Rattle.on_route.specs.Laws.Faces.{add_bad}
 use Rattle.on_route.proofs.add_hop.Goals as goal
 
-pub returns : goal.returns
+pub returns-clause-stepped : goal.returns-clause-stepped
 unfolding node_of
-returns c =
-    c.turning.ensures (rule.add_hop c.args.face c.args.cost c.args.prefix.now) (add_bad _ _ _ c.is_not_open-bad.ensures _ _)
+returns-clause-stepped c =
+    c.turning.ensures.stepped (rule.add_hop c.args.face c.args.cost c.args.prefix.now) (add_bad _ _ _ c.is_not_open-bad.ensures _ _)
     (λ t r t' q. search rules)
+
+pub returns-clause-prefixes : goal.returns-clause-prefixes
+returns-clause-prefixes c = c.turning.ensures.prefixes (λ t r t' q. search rules)

@@ -4,5 +4,5 @@ use Rattle.rules.specs.Node as rule
 use Rattle.on_route.specs.Laws.Faces.{drop_bad}
 use Rattle.on_route.proofs.drop_route.Goals as goal
 
-pub returns : goal.returns
-returns c = c.turning.ensures (rule.drop_route c.args.prefix.now) (drop_bad _ _) (λ t r t' q. search rules)
+pub returns-clause-stepped : goal.returns-clause-stepped
+returns-clause-stepped c = c.turning.ensures.stepped (rule.drop_route c.args.prefix.now) (drop_bad _ _) (λ t r t' q. search rules)

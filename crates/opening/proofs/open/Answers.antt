@@ -1,10 +1,12 @@
 -- The entry that is stored, noted and sent is the rules' new entry.
+use Rattle.event.specs.declared.Memory.{Memory}
 use Rattle.opening.specs.Laws.Opened.{expiry_is, opens_goes}
 use Rattle.opening.proofs.open.Goals as goal
 
 pub returns : goal.returns
-returns c =
+returns c f r s d =
     let a = c.requires in
-    opens_goes c.args.m.now _ _ _ _ _ _ _ _ _ _ _ _ _ _ _ _ _ _ _ _ a.sized (expiry_is _ _ a.sized c.expiry_of-expiry.ensures) a.has_room
-    c.open-h.ensures c.renew.ensures.changed c.renew.ensures.stands c.send.ensures.changed c.note-noted.ensures
+    let m : Memory = record { time = c.args.time; faces = f; routes = r; pending = c.args.p.now; store = s; dead = d } in
+    opens_goes m _ _ _ _ _ _ _ _ _ _ _ _ _ _ _ _ _ _ _ _ a.sized (expiry_is _ _ a.sized c.expiry_of-expiry.ensures) a.has_room
+    c.open-h.ensures.opens c.renew.ensures.changed c.renew.ensures.stands c.send.ensures.changed c.note_fate-noted.ensures
     c.send_interest.ensures

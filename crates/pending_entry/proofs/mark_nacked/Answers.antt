@@ -16,6 +16,6 @@ unfolding at
 returns-then-has c =
     let a = c.args in
     let e = sym c.has.ensures ∙ c.if-has.true in
-    let rows : length a.recs.now ≡ 16 = search rules in
+    let rows : length a.recs.now ≡ most_faces = search rules in
     let five : length (get_or a.recs.now (a.face - 1) []) ≡ 5 = search rules in
     λ nm. rw (nack_written _ five c.nack_word.result, c.nack_word.ensures) (view_nacking most_faces nm _ _ _ _ (omega arith) e)

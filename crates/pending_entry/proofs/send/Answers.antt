@@ -17,7 +17,7 @@ returns-then-is_face c =
     let a = c.args in
     let q = sym c.is_face.ensures ∙ c.if-is_face.true in
     let six : length a.head.now ≡ 6 = search rules in
-    let rows : length a.recs.now ≡ 16 = search rules in
+    let rows : length a.recs.now ≡ most_faces = search rules in
     let five : length (get_or a.recs.now (a.face - 1) []) ≡ 5 = search rules in
     λ nm. rw (sent_written a.head.now six c.add.result, sends_written _ five c.args.nonce c.args.time 0, c.add.ensures)
     (view_sending most_faces nm _ _ _ q (omega arith) _ _)

@@ -15,5 +15,5 @@ returns-in-Some c =
 pub returns-in-None : goal.returns-in-None
 returns-in-None c =
     let a = c.args in
-    let n : length a.numbers.now ≡ 64 = search rules in
+    let n : length a.numbers.now ≡ most_entries = search rules in
     rw c.renumber.ensures (fresh_renumbered most_entries a.numbers.now a.used (omega arith))

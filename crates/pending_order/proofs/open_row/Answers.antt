@@ -11,7 +11,7 @@ use Rattle.pending_order.proofs.open_row.Goals as goal
 pub returns-then-row-lt-ENTRIES : goal.returns-then-row-lt-ENTRIES
 returns-then-row-lt-ENTRIES c =
     let a = c.args in
-    let n : length c.fresh_number.new.numbers ≡ 64 = search rules in
+    let n : length c.fresh_number.new.numbers ≡ most_entries = search rules in
     opens_free most_entries a.numbers.now _ a.used _ _ _ c.free-row.ensures (omega arith) (omega arith)
     c.fresh_number.ensures
     (or_added 64 c.free-row.result a.used (omega arith))

@@ -9,7 +9,10 @@ pub pass-requires-clause-turns : goal.pass-requires-clause-turns
 pass-requires-clause-turns c =
     (closing_work (fingerprint c.args.start) c.args.time c.args.face, λ p h d r k n p' d' r' z e q. search rules)
 
-pub returns : goal.returns
-returns c =
+pub returns-clause-closes : goal.returns-clause-closes
+returns-clause-closes c =
     pass_closes _ _ _ _ _ _ _ _ _ _ _ _ c.all-chosen.ensures
-    (c.pass.ensures (closing_work (fingerprint c.args.start) c.args.time c.args.face) (λ p h d r k n p' d' r' z e q. search rules))
+    (c.pass.ensures.passes (closing_work (fingerprint c.args.start) c.args.time c.args.face) (λ p h d r k n p' d' r' z e q. search rules))
+
+pub returns-clause-records : goal.returns-clause-records
+returns-clause-records c = c.pass.ensures.records (λ p h d r k n p' d' r' z. search rules)

@@ -6,19 +6,24 @@ use Rattle.std.proofs.Math.Option.{none-ne-some}
 use Rattle.std.proofs.Math.Bool.{true≢false}
 use Rattle.names.specs.Fingerprint.{fingerprint}
 use Rattle.records.specs.Laws.Place.{place_some, place_lt}
+use Rattle.pending_table.specs.Laws.Stays.{rows_stayed}
 use Rattle.pending_pass.specs.Laws.Turn.{leaves_not, leaves_out}
 use Rattle.pending_pass.proofs.leave_if_idle.Goals as goal
 
-pub returns-then-is_idle : goal.returns-then-is_idle
-returns-then-is_idle c =
+pub returns-then-is_idle-clause-rows : goal.returns-then-is_idle-clause-rows
+returns-then-is_idle-clause-rows c = c.take_out.ensures.rows
+
+pub returns-then-is_idle-clause-leaves : goal.returns-then-is_idle-clause-leaves
+returns-then-is_idle-clause-leaves c =
     let a = c.args in
+    λ e p.
+    leaves_out (fingerprint a.start) a.time _ _ _ _ e p _ c.is_idle.ensures c.if-is_idle.true
+    _ c.bury.ensures _ c.take_out.ensures.taken.left _ c.take_out.ensures.taken.chosen
+
+pub returns-then-is_idle-clause-absent : goal.returns-then-is_idle-clause-absent
+returns-then-is_idle-clause-absent c =
     let there = place_some _ _ (ltb-true _ _ (sym c.is_there.ensures ∙ c.if-is_there.true)) in
-    record {
-      leaves = λ e p.
-          leaves_out (fingerprint a.start) a.time _ _ _ _ e p _ c.is_idle.ensures c.if-is_idle.true
-          _ c.bury.ensures _ c.take_out.ensures.left _ c.take_out.ensures.chosen;
-      absent = λ q. absurd (none-ne-some there.0 (sym q ∙ there.1));
-    }
+    λ q. absurd (none-ne-some there.0 (sym q ∙ there.1))
 
 pub returns-else-is_idle : goal.returns-else-is_idle
 returns-else-is_idle c =
@@ -27,10 +32,12 @@ returns-else-is_idle c =
       leaves = λ e p.
           leaves_not (fingerprint a.start) a.time _ _ _ _ e p _ c.is_idle.ensures c.if-is_idle.false;
       absent = λ _. (refl, refl);
+      rows = rows_stayed _;
     }
 
 pub returns-else-is_there : goal.returns-else-is_there
 returns-else-is_there c = record {
   leaves = λ e p. absurd (true≢false (sym (lt-ltb _ _ (place_lt _ _ e p)) ∙ sym c.is_there.ensures ∙ c.if-is_there.false));
   absent = λ _. (refl, refl);
+  rows = rows_stayed _;
 }

@@ -24,3 +24,10 @@ Turns calls w =
     → (e : Entry) → entry_at p.now h ≡ some e
     → Turned w (place_of p.now h) e (view p.now) (marks_of p.now) (dead.view d.now) r.now k
     (view p'.now) (marks_of p'.now) (dead.view d'.now) r'.now n
+
+-- each call leaves of the table what a word says stays, from the table before it to the table after
+abbrev pub Keeps : Calls → (Pending → Pending → Type 0) → Type 0
+Keeps calls Stays =
+    (p : MutBor Pending) (h : Handle) (d : MutBor Dead) (r : MutBor (List (List ℕ))) (k n : ℕ)
+    (p' : MutBor Pending) (d' : MutBor Dead) (r' : MutBor (List (List ℕ))) → calls p h d r k n p' d' r'
+    → Stays p.now p'.now

@@ -15,5 +15,5 @@ returns c =
     let a = c.args in
     let recs = a.recs.now in
     λ nm.
-    walk_least (sent_at recs) time_of _ _ (λ x k h e. search (rules, tests)) c.of.result _ c.min_by_key.ensures.ran
+    walk_least (sent_at recs) time_of _ _ (λ x k h e. search (rules, tests)) most_faces c.of.result _ c.min_by_key.ensures.ran
     ∙ sym (view_earliest most_faces nm a.head.now recs a.set _ (c.of.ensures ∙ c.common.ensures))

@@ -23,7 +23,7 @@ loop-f-preserved c =
       | then-has w ↦ ap told_number w.told-is ∙ sym (pick_yes _ _ _ (sym c.has.ensures ∙ w.if-has.true))
       | else-has w ↦ ap told_number w.told-is ∙ sym (pick_no _ _ _ (sym c.has.ensures ∙ w.if-has.false))
     ] in
-    noting_more most_rows most_faces _ _ _ _ _ _ l.rows _ l.next _ l.invariant s.walk _ _ _ s.within (rw fate at c.note-next.ensures) s.rest
+    noting_more most_rows most_faces _ _ _ _ _ _ l.rows _ l.next _ l.invariant s.walk _ _ _ s.within (rw fate at c.note_fate-next.ensures) s.rest
 
 pub returns : goal.returns
 returns c =

@@ -8,7 +8,7 @@ use Rattle.pending_records.proofs.note_face.Goals as goal
 
 pub returns-then-has : goal.returns-then-has
 returns-then-has c =
-    λ nm now. rw (view_noted_one most_faces nm _ _ now _ _ (sym c.has.ensures ∙ c.if-has.true)) c.note.ensures
+    λ nm now. rw (view_noted_one most_faces nm _ _ now _ _ (sym c.has.ensures ∙ c.if-has.true)) c.note_fate.ensures
 
 pub returns-else-has : goal.returns-else-has
 returns-else-has c =

@@ -8,3 +8,6 @@ returns-clause-no_lines c = view_empty _ refl
 
 pub returns-clause-none_counted : goal.returns-clause-none_counted
 returns-clause-none_counted c = count_is _
+
+pub returns-clause-lines : goal.returns-clause-lines
+returns-clause-lines c = record { lines = refl }

@@ -6,7 +6,7 @@ use Rattle.faces.specs.Laws.Gives.{gave}
 use Rattle.faces.proofs.WalkIterator.next.Goals as goal
 
 pub returns-clause-steps : goal.returns-clause-steps
-returns-clause-steps c = gave c.lowest-face.ensures (omega arith) c.remove-self.ensures
+returns-clause-steps c = gave (omega arith) c.lowest-face.ensures (omega arith) c.remove-self.ensures
 
 pub returns-clause-goes : goal.returns-clause-goes
 returns-clause-goes c =

@@ -3,7 +3,7 @@ use borrow.Author.Rules.{rules}
 use native.Mathlib.Omega.{arith}
 use mathlib.Core.Path.{◌≡◌, sym, ◌∙◌}
 use lib.ListN.{length}
-use Rattle.sizes.specs.Sizes.{most_faces}
+use Rattle.sizes.specs.Sizes.{most_faces, most_entries}
 use Rattle.pending_entry.specs.Operations.{bare_entry}
 use Rattle.pending_table.specs.Places.View.{state, opens_more, opens_long, opens_full}
 use Rattle.pending_table.specs.Laws.Row.{row_stored, row_full}
@@ -11,19 +11,19 @@ use Rattle.pending_table.proofs.Pending.open.Goals.{else-row-lt-ENTRIES-via-then
 use Rattle.pending_table.proofs.Pending.open.Goals.{else-row-lt-ENTRIES-via-else-row-lt-ENTRIES}
 use Rattle.pending_table.proofs.Pending.open.Goals as goal
 
-pub returns-then-is_some : goal.returns-then-is_some
+pub returns-then-is_some-clause-opens : goal.returns-then-is_some-clause-opens
 unfolding bare_entry
-returns-then-is_some c =
+returns-then-is_some-clause-opens c =
     let p = c.args.self.now in
-    let n : length p.names ≡ 64 = search rules in
-    let h : length p.heads ≡ 64 = search rules in
+    let n : length p.names ≡ most_entries = search rules in
+    let h : length p.heads ≡ most_entries = search rules in
     let put = row_stored _ c.args.name.now _ c.put_bytes.ensures (sym c.is_some.ensures ∙ c.if-is_some.true) in
     opens_more most_faces p.names p.heads p.recs p.numbers (state p) _ _ _ _ _ _ _ c.free-row.ensures c.open_row.ensures (omega arith)
     (omega (arith, put.0)) n h (c.bare.ensures _ _ ∙ rw put.1)
 
-pub returns-else-row-lt-ENTRIES : goal.returns-else-row-lt-ENTRIES
+pub returns-else-row-lt-ENTRIES-clause-opens : goal.returns-else-row-lt-ENTRIES-clause-opens
 unfolding bare_entry
-returns-else-row-lt-ENTRIES c =
+returns-else-row-lt-ENTRIES-clause-opens c =
     let p = c.args.self.now in
     elim c.else-row-lt-ENTRIES.branch [
       | else-row-lt-ENTRIES-via-then-row-lt-ENTRIES+else-is_some w ↦

@@ -6,7 +6,7 @@ use Rattle.std.proofs.Common.{rules, length, ◌≡◌, Bool, take, ltb, Some, N
 use Rattle.std.specs.List.{position_or_len}
 use Rattle.std.proofs.lemmas.Iterator.{YieldsList-from_slice}
 use Rattle.std.proofs.lemmas.Iterator.Search.{position_from_yields_List}
-use Rattle.sizes.specs.Sizes.{most_faces}
+use Rattle.sizes.specs.Sizes.{most_faces, most_routes}
 use Rattle.names.specs.Name.{same_bytes}
 use Rattle.records.specs.Route.{route_of}
 use Rattle.routes.specs.declared.Row.{Row}
@@ -18,7 +18,7 @@ pub returns : goal.returns
 unfolding route_of
 returns c =
     let a = c.args in
-    let all : length a.self.now.rows ≡ 32 = search rules in
+    let all : length a.self.now.rows ≡ most_routes = search rules in
     let rows = take c.count.result a.self.now.rows in
     let p : Row → Bool = λ r. same_bytes a.prefix.now (route_row most_faces r).name in
     let at : c.position.result ≡ cond (ltb (position_or_len p rows) (length rows)) (Some (position_or_len p rows)) None =

@@ -2,7 +2,7 @@
 use native.Mathlib.Omega.{arith}
 use mathlib.Core.Path.{refl, sym, ◌∙◌}
 use Rattle.std.proofs.Common.{rules, length, ◌≡◌, ◌+◌, ◌-◌}
-use Rattle.sizes.specs.Sizes.{most_faces}
+use Rattle.sizes.specs.Sizes.{most_faces, most_routes}
 use Rattle.laws.specs.Laws.Tab.{without_out}
 use Rattle.routes.specs.Places.View.{no_row, place_is, view_length, view_cut, view_count, view_without}
 use Rattle.routes.proofs.Routes.remove.Goals as goal
@@ -11,7 +11,7 @@ pub returns-then-route-self-clause-gone : goal.returns-then-route-self-clause-go
 returns-then-route-self-clause-gone c =
     let a = c.args in
     let n = c.count-self in
-    let all : length a.self.now.rows ≡ 32 = search rules in
+    let all : length a.self.now.rows ≡ most_routes = search rules in
     let (to, below, above) = c.copy_within.ensures.by_index in
     rw place_is (view_without most_faces a.self.now _ a.route.at n.result (sym n.ensures) (omega arith)
     (λ k h. below k no_row h)

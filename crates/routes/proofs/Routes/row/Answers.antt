@@ -10,6 +10,6 @@ pub returns : goal.returns
 returns c =
     let a = c.args in
     let k = c.count.ensures in
-    let n : length a.self.now.rows ≡ 32 = search rules in
+    let n : length a.self.now.rows ≡ most_routes = search rules in
     let i : IsItemAt (take (min a.self.now.count most_routes) a.self.now.rows) a.route.at c.get.result = search rules in
     row_found a.self.now a.route c.get.result (omega arith) i

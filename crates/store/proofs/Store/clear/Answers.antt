@@ -8,3 +8,6 @@ returns-clause-no_data c = view_empty _ refl
 
 pub returns-clause-counted : goal.returns-clause-counted
 returns-clause-counted c = count_empty _ refl
+
+pub returns-clause-rows : goal.returns-clause-rows
+returns-clause-rows c = record { rows = refl }

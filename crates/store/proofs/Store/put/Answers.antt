@@ -1,5 +1,6 @@
 -- Bytes that are too long change nothing. Else the row after those that are left is written.
 use Rattle.std.proofs.Common.{rules, arith, ◌≡◌, length}
+use Rattle.sizes.specs.Sizes.{most_stored}
 use Rattle.store.specs.Places.View.{count_all, count_is}
 use Rattle.store.specs.Laws.Put.{put_long, put_short}
 use Rattle.store.proofs.Store.put.Goals as goal
@@ -26,7 +27,7 @@ returns-clause-puts c =
     let a = c.args in
     let e = c.make_room.ensures in
     let s = c.make_room.new.self in
-    let n : length s.rows ≡ 8 = search rules in
+    let n : length s.rows ≡ most_stored = search rules in
     put_short a.bytes.now a.time a.freshness a.self.now s.rows s.count _ (omega arith) (omega (arith, e.room, e.counted, count_is s)) n
     (rw c.find_name.ensures at e.gone) c.fill.ensures
 

@@ -1,5 +1,6 @@
 -- The rows from a Data to the last turn by one place. Past the last nothing changes.
 use Rattle.std.proofs.Common.{rules, arith, ◌≡◌, length}
+use Rattle.sizes.specs.Sizes.{most_stored}
 use Rattle.store.specs.Places.View.{place_is, count_all}
 use Rattle.store.specs.Laws.Put.{last_stays}
 use Rattle.store.proofs.Turned.{turned}
@@ -8,7 +9,7 @@ use Rattle.store.proofs.Store.touch.Goals as goal
 pub returns-then-taken-self-clause-touched : goal.returns-then-taken-self-clause-touched
 returns-then-taken-self-clause-touched c =
     let a = c.args in
-    let n : length a.self.now.rows ≡ 8 = search rules in
+    let n : length a.self.now.rows ≡ most_stored = search rules in
     rw place_is (turned a.self.now c.len-self.result a.taken.at c.rotate_left.new.self c.len-self.ensures (omega arith) n
     c.rotate_left.ensures.len c.rotate_left.ensures.by_index)
 

@@ -1,0 +1,8 @@
+-- What an operation leaves as it was of a store's memory: its rows, however many of them count.
+-- Assumes nothing.
+use Rattle.std.specs.Prelude.{◌≡◌}
+use Rattle.store.specs.declared.Store.{Store}
+
+-- the rows stay
+pub record RowsStay (s t : Store) : Type 0 where
+  pub rows : t.rows ≡ s.rows
