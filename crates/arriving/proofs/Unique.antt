@@ -4,7 +4,7 @@
 -- Assumes nothing.
 use mathlib.Core.Path.{◌≡◌, refl}
 use contract.Lifetimes.{Lfts}
-use Rattle.std.specs.Borrow.{MutBor}
+use Rattle.std.specs.Borrow.{Bor, MutBor}
 use denote.Triple.Both.{Both}
 use denote.Triple.Clauses.{AtExit}
 use borrow.Fn.Kinds.{Dens, ended_of, res_t}
@@ -13,7 +13,7 @@ use Rattle.rows.specs.Lent.{Lent}
 use Rattle.rules.specs.Node.{Node}
 use Rattle.rules.specs.Outcome.{Outcome}
 use Rattle.event.specs.declared.Memory.{Memory}
-use Rattle.event.specs.Memory.{Output, output, node_of}
+use Rattle.event.specs.Memory.{Output, output, memory, still, node_of}
 use Rattle.event.specs.Laws.Same.{Same}
 use Rattle.coming.specs.Laws.Goes.{after_same}
 use Rattle.arriving.specs.Coming.{comes_in}
@@ -24,24 +24,33 @@ use Rattle.arriving.proofs.arrive.Reads as arrive-reads
 abbrev lent : {A : Type 0} → MutBor A → MutBor A → Lent A
 lent e x = record { entry = e.now; exit = x.now }
 
-module _ (κs : Lfts 5) where
+-- what was lent behind `&`, from its two ends
+abbrev shown : {A : Type 0} → Bor A → Bor A → Lent A
+shown e x = record { entry = e.now; exit = x.now }
+
+module _ (κs : Lfts 8) where
   -- the memory of what came in at entry and at exit
-  abbrev pub arrive_memory : Dens κs arrive-kinds.ps → AtExit (ended_of 5 arrive-kinds.ps arrive-kinds.r) κs → Both Memory Memory
-  arrive_memory a s = lent a.0 s.0
+  abbrev pub arrive_memory : Dens κs arrive-kinds.ps → AtExit (ended_of 8 arrive-kinds.ps arrive-kinds.r) κs → Both Memory Memory
+  arrive_memory a s =
+      memory (still a.0) (still a.1.0) (shown a.1.1.0 s.1.1.0) (lent a.1.1.1.0 s.1.1.1.0) (lent a.1.1.1.1.0 s.1.1.1.1.0)
+      (lent a.1.1.1.1.1.0 s.1.1.1.1.1.0)
 
   -- its output at entry and at exit
-  abbrev pub arrive_output : Dens κs arrive-kinds.ps → AtExit (ended_of 5 arrive-kinds.ps arrive-kinds.r) κs → Both Output Output
-  arrive_output a s = output (lent a.1.0 s.1.0) (lent a.1.1.0 s.1.1.0) (lent a.1.1.1.0 s.1.1.1.0)
+  abbrev pub arrive_output : Dens κs arrive-kinds.ps → AtExit (ended_of 8 arrive-kinds.ps arrive-kinds.r) κs → Both Output Output
+  arrive_output a s =
+      output (lent a.1.1.1.1.1.1.0 s.1.1.1.1.1.1.0) (lent a.1.1.1.1.1.1.1.0 s.1.1.1.1.1.1.1.0)
+      (lent a.1.1.1.1.1.1.1.1.0 s.1.1.1.1.1.1.1.1.0)
 
   -- what came in
-  abbrev pub arrive_what : Dens κs arrive-kinds.ps → AtExit (ended_of 5 arrive-kinds.ps arrive-kinds.r) κs → Node → Outcome
+  abbrev pub arrive_what : Dens κs arrive-kinds.ps → AtExit (ended_of 8 arrive-kinds.ps arrive-kinds.r) κs → Node → Outcome
   arrive_what a s =
-      comes_in (length (arrive_output a s).entry.buffer) a.1.1.1.1.1.1.0 a.1.1.1.1.1.1.1.0 a.1.1.1.1.1.1.1.1.0.now a.1.1.1.1.1.0
+      comes_in (length (arrive_output a s).entry.buffer) a.1.1.1.1.1.1.1.1.1.1.1.0 a.1.1.1.1.1.1.1.1.1.1.1.1.0
+      a.1.1.1.1.1.1.1.1.1.1.1.1.1.0.now a.1.1.1.1.1.1.1.1.1.1.0
 
   -- the same coming in, after as many rows, from two memories that mean the same node, with the same output
   pub arrive_same : (a b : Dens κs arrive-kinds.ps) (x y : (res_t arrive-kinds.r κs).Denot)
-      (s t : AtExit (ended_of 5 arrive-kinds.ps arrive-kinds.r) κs)
-      → a.1.1.1.1.0 ≡ b.1.1.1.1.0
+      (s t : AtExit (ended_of 8 arrive-kinds.ps arrive-kinds.r) κs)
+      → a.1.1.1.1.1.1.1.1.1.0 ≡ b.1.1.1.1.1.1.1.1.1.0
       → arrive_what a s ≡ arrive_what b t
       → node_of (arrive_memory a s).entry ≡ node_of (arrive_memory b t).entry
       → (arrive_output a s).entry ≡ (arrive_output b t).entry
@@ -50,11 +59,11 @@ module _ (κs : Lfts 5) where
       (arrive_output a s).exit (arrive_output b t).exit
   arrive_same a b x y s t ek ew n o p q =
       after_same x y (arrive_memory a s) (arrive_memory b t) (arrive_output a s) (arrive_output b t) n o
-      (arrive_what a s) (arrive_what b t) _ _ ew ek p.0 q.0
+      (arrive_what a s) (arrive_what b t) _ _ ew ek p q
 
   -- two outcomes of what came in
   pub arrive_one : (a : Dens κs arrive-kinds.ps) (x y : (res_t arrive-kinds.r κs).Denot)
-      (s t : AtExit (ended_of 5 arrive-kinds.ps arrive-kinds.r) κs) → arrive-reads.Post κs a x s → arrive-reads.Post κs a y t
+      (s t : AtExit (ended_of 8 arrive-kinds.ps arrive-kinds.r) κs) → arrive-reads.Post κs a x s → arrive-reads.Post κs a y t
       → Same x y (node_of (arrive_memory a s).exit) (node_of (arrive_memory a t).exit)
       (arrive_output a s).exit (arrive_output a t).exit
   arrive_one a x y s t p q = arrive_same a a x y s t refl refl refl refl p q

@@ -1,21 +1,31 @@
 // What came in on a face, past ageing: the guard, the reader of the bare packet, and the kind that it found.
 #![tactic(auto)]
 
-ghost use Rattle.std.specs.Prelude.{◌≡◌, length};
-ghost use Rattle.rows.specs.Lent.{lent};
-ghost use Rattle.event.specs.Memory.{output};
+ghost use Rattle.std.specs.Prelude.{length};
+ghost use Rattle.rows.specs.Lent.{lent, shown};
+ghost use Rattle.event.specs.Memory.{memory, still, output};
 ghost use Rattle.coming.specs.Goes.{After};
 ghost use Rattle.arriving.specs.Coming.{comes_in};
 
 use coming::guard;
-use event::{Came, Memory, quiet};
+use dead::Dead;
+use event::{Came, quiet};
+use faces::Faces;
 use happenings::Rows;
 use packets::{Packet, read_bare};
+use pending_table::Pending;
+use routes::Routes;
 use sending::Sends;
+use store::Store;
 
 // What came in on a face, past ageing: the Nack's reason or none, the header's mark, and the bare packet.
 pub fn arrive(
-    m: &mut Memory,
+    time: u64,
+    faces: Faces,
+    known: &Routes,
+    p: &mut Pending,
+    stored: &mut Store,
+    nonces: &mut Dead,
     sends: &mut Sends,
     out: &mut [u8],
     rows: &mut Rows,
@@ -25,22 +35,24 @@ pub fn arrive(
     marked: bool,
     bare: &[u8],
 ) -> Came
-    ensures goes { After (comes_in (length out.old) nacked marked bare.now face) made result (lent m) (output (lent sends) (lent out)
-        (lent rows)) }
-    ensures routes { m.new.routes ≡ m.old.routes }
+    ensures { After (comes_in (length out.old) nacked marked bare.now face) made result
+        (memory (still time) (still faces) (shown known) (lent p) (lent stored) (lent nonces))
+        (output (lent sends) (lent out) (lent rows)) }
 {
     // A name over its size is the reader's to refuse.
-    if let Err(answer) = guard(m.time, out.len(), bare.len(), 0) {
+    if let Err(answer) = guard(time, out.len(), bare.len(), 0) {
         return quiet(answer, made);
     }
     match read_bare(bare, nacked, marked) {
         Err(answer) => quiet(answer, made),
-        Ok(Packet::Interest(i)) => {
-            on_interest::interest(m, sends, out, rows, made, face, bare, i)
-        }
-        Ok(Packet::Data(d)) => on_data::data(m, sends, out, rows, made, face, bare, d),
-        Ok(Packet::Nack(reason, i)) => {
-            on_nack::nack(m, sends, out, rows, made, face, reason, bare, i)
-        }
+        Ok(Packet::Interest(i)) => on_interest::interest(
+            time, faces, known, p, stored, nonces, sends, out, rows, made, face, bare, i,
+        ),
+        Ok(Packet::Data(d)) => on_data::data(
+            time, faces, p, stored, nonces, sends, out, rows, made, face, bare, d,
+        ),
+        Ok(Packet::Nack(reason, i)) => on_nack::nack(
+            time, faces, p, nonces, sends, out, rows, made, face, reason, bare, i,
+        ),
     }
 }

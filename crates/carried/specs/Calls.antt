@@ -12,7 +12,10 @@ use Rattle.rules.specs.Node.{What, Event}
 use Rattle.rules.specs.Node as rules
 use Rattle.event.specs.declared.Came.{Came}
 use Rattle.event.specs.declared.Memory.{Memory}
-use Rattle.event.specs.Memory.{Output, output}
+use Rattle.faces.specs.declared.Faces.{Faces}
+use Rattle.routes.specs.declared.Routes.{Routes}
+use Rattle.store.specs.declared.Store.{Store}
+use Rattle.event.specs.Memory.{Output, output, memory, still}
 use Rattle.event.proofs.clear.Kinds as clear-kinds
 use Rattle.event.proofs.clear.Reads as clear_reads
 use Rattle.event.proofs.clock.Kinds as clock-kinds
@@ -52,78 +55,86 @@ lent e x = record { entry = e.now; exit = x.now }
 abbrev shown : {A : Type 0} → Bor A → Bor A → Lent A
 shown e x = record { entry = e.now; exit = x.now }
 
--- a call of one of the eight functions, as its contract has it
+-- a call of one of the eight functions, as its contract has it, and what of the memory it is not lent
 pub data Made : Call → Type 1 where
-  packet : (κs : Lfts 5) (a : Dens κs packet-kinds.ps) (x : (res_t packet-kinds.r κs).Denot)
-      (s : AtExit (ended_of 5 packet-kinds.ps packet-kinds.r) κs) → packet-reads.Post κs a x s
+  packet : (κs : Lfts 9) (a : Dens κs packet-kinds.ps) (x : (res_t packet-kinds.r κs).Denot)
+      (s : AtExit (ended_of 9 packet-kinds.ps packet-kinds.r) κs) → packet-reads.Post κs a x s
       → Made (record {
-        time = a.1.1.1.1.0;
-        what = rules.packet a.1.1.1.1.1.0 a.1.1.1.1.1.1.0.now;
-        memory = lent a.0 s.0;
-        output = output (lent a.1.0 s.1.0) (lent a.1.1.0 s.1.1.0) (lent a.1.1.1.0 s.1.1.1.0);
+        time = a.1.1.1.1.1.1.1.1.1.0;
+        what = rules.packet a.1.1.1.1.1.1.1.1.1.1.0 a.1.1.1.1.1.1.1.1.1.1.1.0.now;
+        memory = memory (lent a.0 s.0) (still a.1.0) (shown a.1.1.0 s.1.1.0) (lent a.1.1.1.0 s.1.1.1.0) (lent a.1.1.1.1.0 s.1.1.1.1.0)
+            (lent a.1.1.1.1.1.0 s.1.1.1.1.1.0);
+        output = output (lent a.1.1.1.1.1.1.0 s.1.1.1.1.1.1.0) (lent a.1.1.1.1.1.1.1.0 s.1.1.1.1.1.1.1.0)
+            (lent a.1.1.1.1.1.1.1.1.0 s.1.1.1.1.1.1.1.1.0);
         came = x;
       })
-  clock : (κs : Lfts 4) (a : Dens κs clock-kinds.ps) (x : (res_t clock-kinds.r κs).Denot)
-      (s : AtExit (ended_of 4 clock-kinds.ps clock-kinds.r) κs) → clock-reads.Post κs a x s
+  clock : (f : Faces) (r : Routes) (d : Store) (κs : Lfts 6) (a : Dens κs clock-kinds.ps) (x : (res_t clock-kinds.r κs).Denot)
+      (s : AtExit (ended_of 6 clock-kinds.ps clock-kinds.r) κs) → clock-reads.Post κs a x s
       → Made (record {
-        time = a.1.1.1.1.0;
+        time = a.1.1.1.1.1.1.0;
         what = rules.clock;
-        memory = lent a.0 s.0;
-        output = output (shown a.1.0 s.1.0) (shown a.1.1.0 s.1.1.0) (lent a.1.1.1.0 s.1.1.1.0);
+        memory = memory (lent a.0 s.0) (still f) (still r) (lent a.1.0 s.1.0) (still d) (lent a.1.1.0 s.1.1.0);
+        output = output (shown a.1.1.1.0 s.1.1.1.0) (shown a.1.1.1.1.0 s.1.1.1.1.0) (lent a.1.1.1.1.1.0 s.1.1.1.1.1.0);
         came = x;
       })
-  open_face : (κs : Lfts 4) (a : Dens κs open-face-kinds.ps) (x : (res_t open-face-kinds.r κs).Denot)
-      (s : AtExit (ended_of 4 open-face-kinds.ps open-face-kinds.r) κs) → open-face-reads.Post κs a x s
+  open_face : (r : Routes) (d : Store) (κs : Lfts 7) (a : Dens κs open-face-kinds.ps) (x : (res_t open-face-kinds.r κs).Denot)
+      (s : AtExit (ended_of 7 open-face-kinds.ps open-face-kinds.r) κs) → open-face-reads.Post κs a x s
       → Made (record {
-        time = a.1.1.1.1.0;
-        what = rules.open_face a.1.1.1.1.1.0 a.1.1.1.1.1.1.0 a.1.1.1.1.1.1.1.0;
-        memory = lent a.0 s.0;
-        output = output (shown a.1.0 s.1.0) (shown a.1.1.0 s.1.1.0) (lent a.1.1.1.0 s.1.1.1.0);
+        time = a.1.1.1.1.1.1.1.0;
+        what = rules.open_face a.1.1.1.1.1.1.1.1.0 a.1.1.1.1.1.1.1.1.1.0 a.1.1.1.1.1.1.1.1.1.1.0;
+        memory = memory (lent a.0 s.0) (lent a.1.0 s.1.0) (still r) (lent a.1.1.0 s.1.1.0) (still d) (lent a.1.1.1.0 s.1.1.1.0);
+        output = output (shown a.1.1.1.1.0 s.1.1.1.1.0) (shown a.1.1.1.1.1.0 s.1.1.1.1.1.0) (lent a.1.1.1.1.1.1.0 s.1.1.1.1.1.1.0);
         came = x;
       })
-  close_face : (κs : Lfts 4) (a : Dens κs close-face-kinds.ps) (x : (res_t close-face-kinds.r κs).Denot)
-      (s : AtExit (ended_of 4 close-face-kinds.ps close-face-kinds.r) κs) → close-face-reads.Post κs a x s
+  close_face : (d : Store) (κs : Lfts 8) (a : Dens κs close-face-kinds.ps) (x : (res_t close-face-kinds.r κs).Denot)
+      (s : AtExit (ended_of 8 close-face-kinds.ps close-face-kinds.r) κs) → close-face-reads.Post κs a x s
       → Made (record {
-        time = a.1.1.1.1.0;
-        what = rules.close_face a.1.1.1.1.1.0;
-        memory = lent a.0 s.0;
-        output = output (shown a.1.0 s.1.0) (shown a.1.1.0 s.1.1.0) (lent a.1.1.1.0 s.1.1.1.0);
+        time = a.1.1.1.1.1.1.1.1.0;
+        what = rules.close_face a.1.1.1.1.1.1.1.1.1.0;
+        memory = memory (lent a.0 s.0) (lent a.1.0 s.1.0) (lent a.1.1.0 s.1.1.0) (lent a.1.1.1.0 s.1.1.1.0) (still d)
+            (lent a.1.1.1.1.0 s.1.1.1.1.0);
+        output = output (shown a.1.1.1.1.1.0 s.1.1.1.1.1.0) (shown a.1.1.1.1.1.1.0 s.1.1.1.1.1.1.0)
+            (lent a.1.1.1.1.1.1.1.0 s.1.1.1.1.1.1.1.0);
         came = x;
       })
-  set_route : (κs : Lfts 5) (a : Dens κs set-route-kinds.ps) (x : (res_t set-route-kinds.r κs).Denot)
-      (s : AtExit (ended_of 5 set-route-kinds.ps set-route-kinds.r) κs) → set-route-reads.Post κs a x s
+  set_route : (f : Faces) (d : Store) (κs : Lfts 8) (a : Dens κs set-route-kinds.ps) (x : (res_t set-route-kinds.r κs).Denot)
+      (s : AtExit (ended_of 8 set-route-kinds.ps set-route-kinds.r) κs) → set-route-reads.Post κs a x s
       → Made (record {
-        time = a.1.1.1.1.0;
-        what = rules.set_route a.1.1.1.1.1.0 a.1.1.1.1.1.1.0.now;
-        memory = lent a.0 s.0;
-        output = output (shown a.1.0 s.1.0) (shown a.1.1.0 s.1.1.0) (lent a.1.1.1.0 s.1.1.1.0);
+        time = a.1.1.1.1.1.1.1.0;
+        what = rules.set_route a.1.1.1.1.1.1.1.1.0 a.1.1.1.1.1.1.1.1.1.0.now;
+        memory = memory (lent a.0 s.0) (still f) (lent a.1.0 s.1.0) (lent a.1.1.0 s.1.1.0) (still d) (lent a.1.1.1.0 s.1.1.1.0);
+        output = output (shown a.1.1.1.1.0 s.1.1.1.1.0) (shown a.1.1.1.1.1.0 s.1.1.1.1.1.0) (lent a.1.1.1.1.1.1.0 s.1.1.1.1.1.1.0);
         came = x;
       })
-  drop_route : (κs : Lfts 5) (a : Dens κs drop-route-kinds.ps) (x : (res_t drop-route-kinds.r κs).Denot)
-      (s : AtExit (ended_of 5 drop-route-kinds.ps drop-route-kinds.r) κs) → drop-route-reads.Post κs a x s
+  drop_route : (f : Faces) (d : Store) (κs : Lfts 8) (a : Dens κs drop-route-kinds.ps) (x : (res_t drop-route-kinds.r κs).Denot)
+      (s : AtExit (ended_of 8 drop-route-kinds.ps drop-route-kinds.r) κs) → drop-route-reads.Post κs a x s
       → Made (record {
-        time = a.1.1.1.1.0;
-        what = rules.drop_route a.1.1.1.1.1.0.now;
-        memory = lent a.0 s.0;
-        output = output (shown a.1.0 s.1.0) (shown a.1.1.0 s.1.1.0) (lent a.1.1.1.0 s.1.1.1.0);
+        time = a.1.1.1.1.1.1.1.0;
+        what = rules.drop_route a.1.1.1.1.1.1.1.1.0.now;
+        memory = memory (lent a.0 s.0) (still f) (lent a.1.0 s.1.0) (lent a.1.1.0 s.1.1.0) (still d) (lent a.1.1.1.0 s.1.1.1.0);
+        output = output (shown a.1.1.1.1.0 s.1.1.1.1.0) (shown a.1.1.1.1.1.0 s.1.1.1.1.1.0) (lent a.1.1.1.1.1.1.0 s.1.1.1.1.1.1.0);
         came = x;
       })
-  add_hop : (κs : Lfts 5) (a : Dens κs add-hop-kinds.ps) (x : (res_t add-hop-kinds.r κs).Denot)
-      (s : AtExit (ended_of 5 add-hop-kinds.ps add-hop-kinds.r) κs) → add-hop-reads.Post κs a x s
+  add_hop : (d : Store) (κs : Lfts 8) (a : Dens κs add-hop-kinds.ps) (x : (res_t add-hop-kinds.r κs).Denot)
+      (s : AtExit (ended_of 8 add-hop-kinds.ps add-hop-kinds.r) κs) → add-hop-reads.Post κs a x s
       → Made (record {
-        time = a.1.1.1.1.0;
-        what = rules.add_hop a.1.1.1.1.1.0 a.1.1.1.1.1.1.0 a.1.1.1.1.1.1.1.0.now;
-        memory = lent a.0 s.0;
-        output = output (shown a.1.0 s.1.0) (shown a.1.1.0 s.1.1.0) (lent a.1.1.1.0 s.1.1.1.0);
+        time = a.1.1.1.1.1.1.1.1.0;
+        what = rules.add_hop a.1.1.1.1.1.1.1.1.1.0 a.1.1.1.1.1.1.1.1.1.1.0 a.1.1.1.1.1.1.1.1.1.1.1.0.now;
+        memory = memory (lent a.0 s.0) (still a.1.0) (lent a.1.1.0 s.1.1.0) (lent a.1.1.1.0 s.1.1.1.0) (still d)
+            (lent a.1.1.1.1.0 s.1.1.1.1.0);
+        output = output (shown a.1.1.1.1.1.0 s.1.1.1.1.1.0) (shown a.1.1.1.1.1.1.0 s.1.1.1.1.1.1.0)
+            (lent a.1.1.1.1.1.1.1.0 s.1.1.1.1.1.1.1.0);
         came = x;
       })
-  drop_hop : (κs : Lfts 5) (a : Dens κs drop-hop-kinds.ps) (x : (res_t drop-hop-kinds.r κs).Denot)
-      (s : AtExit (ended_of 5 drop-hop-kinds.ps drop-hop-kinds.r) κs) → drop-hop-reads.Post κs a x s
+  drop_hop : (d : Store) (κs : Lfts 8) (a : Dens κs drop-hop-kinds.ps) (x : (res_t drop-hop-kinds.r κs).Denot)
+      (s : AtExit (ended_of 8 drop-hop-kinds.ps drop-hop-kinds.r) κs) → drop-hop-reads.Post κs a x s
       → Made (record {
-        time = a.1.1.1.1.0;
-        what = rules.drop_hop a.1.1.1.1.1.0 a.1.1.1.1.1.1.0.now;
-        memory = lent a.0 s.0;
-        output = output (shown a.1.0 s.1.0) (shown a.1.1.0 s.1.1.0) (lent a.1.1.1.0 s.1.1.1.0);
+        time = a.1.1.1.1.1.1.1.1.0;
+        what = rules.drop_hop a.1.1.1.1.1.1.1.1.1.0 a.1.1.1.1.1.1.1.1.1.1.0.now;
+        memory = memory (lent a.0 s.0) (still a.1.0) (lent a.1.1.0 s.1.1.0) (lent a.1.1.1.0 s.1.1.1.0) (still d)
+            (lent a.1.1.1.1.0 s.1.1.1.1.0);
+        output = output (shown a.1.1.1.1.1.0 s.1.1.1.1.1.0) (shown a.1.1.1.1.1.1.0 s.1.1.1.1.1.1.0)
+            (lent a.1.1.1.1.1.1.1.0 s.1.1.1.1.1.1.1.0);
         came = x;
       })
 

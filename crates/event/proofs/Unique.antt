@@ -14,7 +14,10 @@ use Rattle.answers.specs.Number.{number_of}
 use Rattle.rows.specs.Lent.{Lent}
 use Rattle.rules.specs.Node as rules
 use Rattle.event.specs.declared.Memory.{Memory}
-use Rattle.event.specs.Memory.{Output, output, node_of}
+use Rattle.faces.specs.declared.Faces.{Faces}
+use Rattle.routes.specs.declared.Routes.{Routes}
+use Rattle.store.specs.declared.Store.{Store}
+use Rattle.event.specs.Memory.{Output, output, memory, still, node_of}
 use Rattle.event.specs.Places.Begins.{began}
 use Rattle.event.specs.Laws.Same.{Same, stepped_same, begun_same}
 use Rattle.event.proofs.Memory.new.Kinds as new-kinds
@@ -69,65 +72,67 @@ began_one (Ok k) (Err b) p q e m = absurd (q (ap number_of (sym e)))
 began_one (Err a) (Ok j) p q e m = absurd (p (ap number_of e))
 began_one (Err a) (Err b) p q e m = ap (λ (y : Answer). Err y) e
 
-module _ (κs : Lfts 4) where
-  -- the memory of the beginning of an event at entry and at exit
-  abbrev begins_memory : Dens κs begins-kinds.ps → AtExit (ended_of 4 begins-kinds.ps begins-kinds.r) κs → Both Memory Memory
-  begins_memory a s = lent a.0 s.0
+module _ (κs : Lfts 6) where
+  -- the memory of the beginning of an event at entry and at exit, with the tables that it is not lent
+  abbrev begins_memory : Faces → Routes → Store → Dens κs begins-kinds.ps → AtExit (ended_of 6 begins-kinds.ps begins-kinds.r) κs
+      → Both Memory Memory
+  begins_memory f r d a s = memory (lent a.0 s.0) (still f) (still r) (lent a.1.0 s.1.0) (still d) (lent a.1.1.0 s.1.1.0)
 
   -- its output at entry and at exit
-  abbrev begins_output : Dens κs begins-kinds.ps → AtExit (ended_of 4 begins-kinds.ps begins-kinds.r) κs → Both Output Output
-  begins_output a s = output (shown a.1.0 s.1.0) (shown a.1.1.0 s.1.1.0) (lent a.1.1.1.0 s.1.1.1.0)
+  abbrev begins_output : Dens κs begins-kinds.ps → AtExit (ended_of 6 begins-kinds.ps begins-kinds.r) κs → Both Output Output
+  begins_output a s = output (shown a.1.1.1.0 s.1.1.1.0) (shown a.1.1.1.1.0 s.1.1.1.1.0) (lent a.1.1.1.1.1.0 s.1.1.1.1.1.0)
 
   -- the beginning of an event from two memories that mean the same node, with the same time, refusal and output
-  pub begins_same : (a b : Dens κs begins-kinds.ps) (x y : (res_t begins-kinds.r κs).Denot)
-      (s t : AtExit (ended_of 4 begins-kinds.ps begins-kinds.r) κs)
-      → a.1.1.1.1.0 ≡ b.1.1.1.1.0 → a.1.1.1.1.1.0 ≡ b.1.1.1.1.1.0
-      → node_of (begins_memory a s).entry ≡ node_of (begins_memory b t).entry
+  pub begins_same : (f g : Faces) (r q : Routes) (d e : Store) (a b : Dens κs begins-kinds.ps) (x y : (res_t begins-kinds.r κs).Denot)
+      (s t : AtExit (ended_of 6 begins-kinds.ps begins-kinds.r) κs)
+      → a.1.1.1.1.1.1.0 ≡ b.1.1.1.1.1.1.0 → a.1.1.1.1.1.1.1.0 ≡ b.1.1.1.1.1.1.1.0
+      → node_of (begins_memory f r d a s).entry ≡ node_of (begins_memory g q e b t).entry
       → (begins_output a s).entry ≡ (begins_output b t).entry
       → begins-reads.Post κs a x s → begins-reads.Post κs b y t
       → (x ≡ y)
-      × Same (began x) (began y) (node_of (begins_memory a s).exit) (node_of (begins_memory b t).exit)
+      × Same (began x) (began y) (node_of (begins_memory f r d a s).exit) (node_of (begins_memory g q e b t).exit)
       (begins_output a s).exit (begins_output b t).exit
-  begins_same a b x y s t et ec n o p q =
-      let w = begun_same (began x) (began y) (begins_memory a s) (begins_memory b t) (begins_output a s) (begins_output b t) n o
-      _ _ _ _ et ec p.0 q.0 in
-      (began_one x y p.1.0 q.1.0 w.answer w.made, w)
+  begins_same f g r q d e a b x y s t et ec n o p w =
+      let z = begun_same (began x) (began y) (begins_memory f r d a s) (begins_memory g q e b t) (begins_output a s) (begins_output b t)
+      n o _ _ _ _ et ec (p.0 f r d) (w.0 g q e) in
+      (began_one x y p.1.0 w.1.0 z.answer z.made, z)
 
   -- two outcomes of the beginning of an event
-  pub begins_one : (a : Dens κs begins-kinds.ps) (x y : (res_t begins-kinds.r κs).Denot)
-      (s t : AtExit (ended_of 4 begins-kinds.ps begins-kinds.r) κs)
+  pub begins_one : (f : Faces) (r : Routes) (d : Store) (a : Dens κs begins-kinds.ps) (x y : (res_t begins-kinds.r κs).Denot)
+      (s t : AtExit (ended_of 6 begins-kinds.ps begins-kinds.r) κs)
       → begins-reads.Post κs a x s → begins-reads.Post κs a y t
       → (x ≡ y)
-      × Same (began x) (began y) (node_of (begins_memory a s).exit) (node_of (begins_memory a t).exit)
+      × Same (began x) (began y) (node_of (begins_memory f r d a s).exit) (node_of (begins_memory f r d a t).exit)
       (begins_output a s).exit (begins_output a t).exit
-  begins_one a x y s t p q = begins_same a a x y s t refl refl refl refl p q
+  begins_one f r d a x y s t p w = begins_same f f r r d d a a x y s t refl refl refl refl p w
 
-module _ (κs : Lfts 4) where
-  -- the memory of a reading of the clock at entry and at exit
-  abbrev pub clock_memory : Dens κs clock-kinds.ps → AtExit (ended_of 4 clock-kinds.ps clock-kinds.r) κs → Both Memory Memory
-  clock_memory a s = lent a.0 s.0
+module _ (κs : Lfts 6) where
+  -- the memory of a reading of the clock at entry and at exit, with the tables that it is not lent
+  abbrev pub clock_memory : Faces → Routes → Store → Dens κs clock-kinds.ps → AtExit (ended_of 6 clock-kinds.ps clock-kinds.r) κs
+      → Both Memory Memory
+  clock_memory f r d a s = memory (lent a.0 s.0) (still f) (still r) (lent a.1.0 s.1.0) (still d) (lent a.1.1.0 s.1.1.0)
 
   -- its output at entry and at exit
-  abbrev pub clock_output : Dens κs clock-kinds.ps → AtExit (ended_of 4 clock-kinds.ps clock-kinds.r) κs → Both Output Output
-  clock_output a s = output (shown a.1.0 s.1.0) (shown a.1.1.0 s.1.1.0) (lent a.1.1.1.0 s.1.1.1.0)
+  abbrev pub clock_output : Dens κs clock-kinds.ps → AtExit (ended_of 6 clock-kinds.ps clock-kinds.r) κs → Both Output Output
+  clock_output a s = output (shown a.1.1.1.0 s.1.1.1.0) (shown a.1.1.1.1.0 s.1.1.1.1.0) (lent a.1.1.1.1.1.0 s.1.1.1.1.1.0)
 
   -- a reading of the clock from two memories that mean the same node, with the same time and output
-  pub clock_same : (a b : Dens κs clock-kinds.ps) (x y : (res_t clock-kinds.r κs).Denot)
-      (s t : AtExit (ended_of 4 clock-kinds.ps clock-kinds.r) κs)
-      → a.1.1.1.1.0 ≡ b.1.1.1.1.0
-      → node_of (clock_memory a s).entry ≡ node_of (clock_memory b t).entry
+  pub clock_same : (f g : Faces) (r q : Routes) (d e : Store) (a b : Dens κs clock-kinds.ps) (x y : (res_t clock-kinds.r κs).Denot)
+      (s t : AtExit (ended_of 6 clock-kinds.ps clock-kinds.r) κs)
+      → a.1.1.1.1.1.1.0 ≡ b.1.1.1.1.1.1.0
+      → node_of (clock_memory f r d a s).entry ≡ node_of (clock_memory g q e b t).entry
       → (clock_output a s).entry ≡ (clock_output b t).entry
       → clock-reads.Post κs a x s → clock-reads.Post κs b y t
-      → Same x y (node_of (clock_memory a s).exit) (node_of (clock_memory b t).exit)
+      → Same x y (node_of (clock_memory f r d a s).exit) (node_of (clock_memory g q e b t).exit)
       (clock_output a s).exit (clock_output b t).exit
-  clock_same a b x y s t et n o p q =
-      stepped_same x y (clock_memory a s) (clock_memory b t) (clock_output a s) (clock_output b t) n o
-      _ _ rules.clock rules.clock et refl p.0 q.0
+  clock_same f g r q d e a b x y s t et n o p w =
+      stepped_same x y (clock_memory f r d a s) (clock_memory g q e b t) (clock_output a s) (clock_output b t) n o
+      _ _ rules.clock rules.clock et refl (p.0 f r d) (w.0 g q e)
 
   -- two outcomes of a reading of the clock
-  pub clock_one : (a : Dens κs clock-kinds.ps) (x y : (res_t clock-kinds.r κs).Denot)
-      (s t : AtExit (ended_of 4 clock-kinds.ps clock-kinds.r) κs)
+  pub clock_one : (f : Faces) (r : Routes) (d : Store) (a : Dens κs clock-kinds.ps) (x y : (res_t clock-kinds.r κs).Denot)
+      (s t : AtExit (ended_of 6 clock-kinds.ps clock-kinds.r) κs)
       → clock-reads.Post κs a x s → clock-reads.Post κs a y t
-      → Same x y (node_of (clock_memory a s).exit) (node_of (clock_memory a t).exit)
+      → Same x y (node_of (clock_memory f r d a s).exit) (node_of (clock_memory f r d a t).exit)
       (clock_output a s).exit (clock_output a t).exit
-  clock_one a x y s t p q = clock_same a a x y s t refl refl refl p q
+  clock_one f r d a x y s t p w = clock_same f f r r d d a a x y s t refl refl refl p w

@@ -5,4 +5,3 @@ pub mod Begins
 pub mod Same
 pub mod Faces
 pub mod Rows
-pub mod Stays

@@ -9,6 +9,11 @@ use Rattle.pending_table.specs.Places.View as pending
 use Rattle.store.specs.Places.View as store
 use Rattle.dead.specs.Places.View as dead
 use Rattle.rules.specs.Node.{Node}
+use Rattle.faces.specs.declared.Faces.{Faces}
+use Rattle.routes.specs.declared.Routes.{Routes}
+use Rattle.pending_table.specs.declared.Pending.{Pending}
+use Rattle.store.specs.declared.Store.{Store}
+use Rattle.dead.specs.declared.Dead.{Dead}
 use Rattle.event.specs.declared.Memory.{Memory}
 
 -- a table of rows
@@ -26,6 +31,17 @@ abbrev pub output : Lent Table → Lent (List ℕ) → Lent Table → Both Outpu
 output s b r = record {
   entry = record { sends = s.entry; buffer = b.entry; rows = r.entry };
   exit = record { sends = s.exit; buffer = b.exit; rows = r.exit };
+}
+
+-- what code is lent by value, or not at all: it is the same at both
+abbrev pub still : {A : Type 0} → A → Lent A
+still x = record { entry = x; exit = x }
+
+-- the memory at entry and at exit, of its parts
+abbrev pub memory : Lent ℕ → Lent Faces → Lent Routes → Lent Pending → Lent Store → Lent Dead → Both Memory Memory
+memory t f r p s d = record {
+  entry = record { time = t.entry; faces = f.entry; routes = r.entry; pending = p.entry; store = s.entry; dead = d.entry };
+  exit = record { time = t.exit; faces = f.exit; routes = r.exit; pending = p.exit; store = s.exit; dead = d.exit };
 }
 
 -- the node that a memory means: each table through its view. Any memory is some node.

@@ -6,11 +6,15 @@ ghost use Rattle.sizes.specs.Sizes.{most_faces, least_buffer};
 ghost use Rattle.answers.specs.Number.{number_of};
 ghost use Rattle.records.specs.Face.{is_open};
 ghost use Rattle.faces.specs.Places.View.{view};
+ghost use Rattle.faces.specs.declared.Faces.{Faces};
+ghost use Rattle.routes.specs.declared.Routes.{Routes};
+ghost use Rattle.store.specs.declared.Store.{Store};
+ghost use Rattle.pending_table.specs.Places.Stays.{RecordsStay};
 ghost use Rattle.rules.specs.Node as rules;
 ghost use Rattle.rows.specs.Lent.{lent, shown};
-ghost use Rattle.event.specs.Memory.{node_of, output};
+ghost use Rattle.event.specs.Memory.{node_of, memory, still, output};
 ghost use Rattle.event.specs.Comes.{Stepped, Begun};
-ghost use Rattle.event.specs.Stays.{TablesStay, RowsStay};
+ghost use Rattle.event.specs.Stays.{RowsStay};
 ghost use Rattle.event.specs.Places.Begins.{allowed, refusal, began};
 
 use answers::Answer;
@@ -108,31 +112,43 @@ fn check(last: u64, time: u64, room: usize, bad: bool) -> Result<(), Answer>
 }
 
 // How every event begins: checks 1, 2 and 3, where `bad` says that the face is refused, and then "Every other answer first moves the last
-// time and ages the tables". The answer of a refusal, or how many happenings are noted.
+// time and ages the tables". The answer of a refusal, or how many happenings are noted. Whatever the faces, the routes and the store are.
 pub fn begins(
-    m: &mut Memory,
+    last: &mut u64,
+    p: &mut Pending,
+    nonces: &mut Dead,
     sends: &Sends,
     out: &[u8],
     rows: &mut Rows,
     time: u64,
     bad: bool,
 ) -> Result<usize, Answer>
-    ensures begun { Begun time bad (began result) (lent m) (output (shown sends) (shown out) (lent rows)) }
+    ensures begun { (f : Faces) (r : Routes) (s : Store) → Begun time bad (began result)
+        (memory (lent last) (still f) (still r) (lent p) (still s) (lent nonces)) (output (shown sends) (shown out) (lent rows)) }
     ensures refused { IfErr result (λ a. number_of a ≢ 0) }
-    ensures kept { IfErr result (λ _. m.new ≡ m.old) }
-    ensures stays { TablesStay (lent m) }
+    ensures kept { IfErr result (λ _. (last.new ≡ last.old) × (p.new ≡ p.old) × (nonces.new ≡ nonces.old)) }
+    ensures records { RecordsStay p.old p.new }
 {
-    check(m.time, time, out.len(), bad)?;
-    m.time = time;
-    Ok(age(&mut m.pending, &mut m.dead, rows, FNV_START, time))
+    check(*last, time, out.len(), bad)?;
+    *last = time;
+    Ok(age(p, nonces, rows, FNV_START, time))
 }
 
 // The clock is read.
-pub fn clock(m: &mut Memory, sends: &Sends, out: &[u8], rows: &mut Rows, time: u64) -> Came
-    ensures stepped { Stepped time rules.clock result (lent m) (output (shown sends) (shown out) (lent rows)) }
-    ensures stays { TablesStay (lent m) }
+pub fn clock(
+    last: &mut u64,
+    p: &mut Pending,
+    nonces: &mut Dead,
+    sends: &Sends,
+    out: &[u8],
+    rows: &mut Rows,
+    time: u64,
+) -> Came
+    ensures stepped { (f : Faces) (r : Routes) (s : Store) → Stepped time rules.clock result
+        (memory (lent last) (still f) (still r) (lent p) (still s) (lent nonces)) (output (shown sends) (shown out) (lent rows)) }
+    ensures records { RecordsStay p.old p.new }
 {
-    match begins(m, sends, out, rows, time, false) {
+    match begins(last, p, nonces, sends, out, rows, time, false) {
         Ok(made) => quiet(Answer::Done, made),
         Err(answer) => quiet(answer, 0),
     }

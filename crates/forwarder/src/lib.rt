@@ -1,23 +1,33 @@
 // A packet that comes in on a face: how the event begins, its header, and what stands in it.
 #![tactic(auto)]
 
-ghost use Rattle.std.specs.Prelude.{◌≡◌, length};
+ghost use Rattle.std.specs.Prelude.{length};
 ghost use Rattle.rules.specs.Node as rules;
-ghost use Rattle.rows.specs.Lent.{lent};
-ghost use Rattle.event.specs.Memory.{output};
+ghost use Rattle.rows.specs.Lent.{lent, shown};
+ghost use Rattle.event.specs.Memory.{memory, still, output};
 ghost use Rattle.event.specs.Comes.{Stepped};
 ghost use Rattle.coming.specs.Goes.{After};
 ghost use Rattle.forwarder.specs.Places.Read.{read_in};
 
 use arriving::arrive;
-use event::{Came, Memory, begins, is_not_open, quiet};
+use dead::Dead;
+use event::{Came, begins, is_not_open, quiet};
+use faces::Faces;
 use happenings::Rows;
 use packethead::read_header;
+use pending_table::Pending;
+use routes::Routes;
 use sending::Sends;
+use store::Store;
 
 // A packet on a face, past ageing: its header is refused, or what stands in it comes in.
 fn read(
-    m: &mut Memory,
+    time: u64,
+    faces: Faces,
+    known: &Routes,
+    p: &mut Pending,
+    stored: &mut Store,
+    nonces: &mut Dead,
     sends: &mut Sends,
     out: &mut [u8],
     rows: &mut Rows,
@@ -25,21 +35,30 @@ fn read(
     face: usize,
     bytes: &[u8],
 ) -> Came
-    ensures goes { After (read_in (length out.old) face bytes.now) made result (lent m) (output (lent sends) (lent out) (lent rows)) }
-    ensures routes { m.new.routes ≡ m.old.routes }
+    ensures { After (read_in (length out.old) face bytes.now) made result
+        (memory (still time) (still faces) (shown known) (lent p) (lent stored) (lent nonces))
+        (output (lent sends) (lent out) (lent rows)) }
 {
     match read_header(bytes) {
         Err(answer) => quiet(answer, made),
-        Ok(p) => {
-            let bare = &bytes[p.from..p.from + p.len];
-            arrive(m, sends, out, rows, made, face, p.nack, p.marked, bare)
+        Ok(h) => {
+            let bare = &bytes[h.from..h.from + h.len];
+            arrive(
+                time, faces, known, p, stored, nonces, sends, out, rows, made, face, h.nack,
+                h.marked, bare,
+            )
         }
     }
 }
 
 // A packet comes in on a face.
 pub fn packet(
-    m: &mut Memory,
+    last: &mut u64,
+    faces: Faces,
+    known: &Routes,
+    p: &mut Pending,
+    stored: &mut Store,
+    nonces: &mut Dead,
     sends: &mut Sends,
     out: &mut [u8],
     rows: &mut Rows,
@@ -47,12 +66,14 @@ pub fn packet(
     face: usize,
     bytes: &[u8],
 ) -> Came
-    ensures stepped { Stepped time (rules.packet face bytes.now) result (lent m) (output (lent sends) (lent out) (lent rows)) }
-    ensures routes { m.new.routes ≡ m.old.routes }
+    ensures { Stepped time (rules.packet face bytes.now) result
+        (memory (lent last) (still faces) (shown known) (lent p) (lent stored) (lent nonces)) (output (lent sends) (lent out) (lent rows)) }
 {
-    let bad = is_not_open(m.faces, face);
-    match begins(m, sends, out, rows, time, bad) {
+    let bad = is_not_open(faces, face);
+    match begins(last, p, nonces, sends, out, rows, time, bad) {
         Err(answer) => quiet(answer, 0),
-        Ok(made) => read(m, sends, out, rows, made, face, bytes),
+        Ok(made) => read(
+            *last, faces, known, p, stored, nonces, sends, out, rows, made, face, bytes,
+        ),
     }
 }

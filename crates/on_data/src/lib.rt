@@ -5,23 +5,28 @@ ghost use Rattle.std.specs.Prelude.{◌≡◌, min, length};
 ghost use Rattle.sizes.specs.Sizes.{most_freshness};
 ghost use Rattle.packethead.specs.Name.{name_of};
 ghost use Rattle.rules.specs.Data.{data_step};
+ghost use Rattle.routes.specs.declared.Routes.{Routes};
+ghost use Rattle.pending_table.specs.Places.Stays.{RowsStay};
 ghost use Rattle.rows.specs.Lent.{lent};
-ghost use Rattle.event.specs.Memory.{output};
-ghost use Rattle.event.specs.Stays.{DataStays};
+ghost use Rattle.event.specs.Memory.{memory, still, output};
 ghost use Rattle.coming.specs.Goes.{After, guarded};
 ghost use Rattle.coming.specs.Places.Found.{offer_found};
 ghost use Rattle.on_data.specs.Places.Brings.{brings, Fits};
 
 use answers::Answer;
 use coming::{guard, is_out_of_scope};
-use event::{Came, Memory, quiet};
+use dead::Dead;
+use event::{Came, quiet};
+use faces::Faces;
 use happenings::Rows;
 use names::FNV_START;
 use packethead::find_name;
 use packets::Data;
 use pending_pass::{Classes, satisfy};
+use pending_table::Pending;
 use sending::{Sends, send_copies};
 use sizes::{FACES, MOST_FRESHNESS};
+use store::Store;
 
 // Its freshness as it counts.
 fn freshness_of(d: Data) -> u64
@@ -32,7 +37,11 @@ fn freshness_of(d: Data) -> u64
 
 // A Data of a name, past the checks of size and scope.
 fn bring(
-    m: &mut Memory,
+    time: u64,
+    faces: Faces,
+    p: &mut Pending,
+    stored: &mut Store,
+    nonces: &mut Dead,
     sends: &mut Sends,
     out: &mut [u8],
     rows: &mut Rows,
@@ -43,29 +52,30 @@ fn bring(
     d: Data,
 ) -> Came
     requires { Fits name.now bare.now out.old }
-    ensures goes { After (brings face (offer_found bare.now d) bare.now) made result (lent m) (output (lent sends) (lent out) (lent rows)) }
-    ensures stays { DataStays (lent m) }
+    ensures goes { (r : Routes) → After (brings face (offer_found bare.now d) bare.now) made result
+        (memory (still time) (still faces) (still r) (lent p) (lent stored) (lent nonces)) (output (lent sends) (lent out) (lent rows)) }
+    ensures rows { RowsStay p.old p.new }
 {
-    let stood = m.pending.size();
-    let adhoc = m.faces.is_ad_hoc(face);
+    let stood = p.size();
+    let adhoc = faces.is_ad_hoc(face);
     let mut classes: Classes = [0; FACES];
     let met = satisfy(
-        &mut m.pending,
-        &mut m.dead,
+        p,
+        nonces,
         rows,
         made,
         FNV_START,
-        m.time,
+        time,
         name,
         face,
         adhoc,
         &mut classes,
     );
     // Where as many entries stand as before, none matched.
-    if m.pending.size() == stood {
+    if p.size() == stood {
         return quiet(Answer::Unsolicited, met.made);
     }
-    m.store.put(bare, m.time, freshness_of(d));
+    stored.put(bare, time, freshness_of(d));
     Came {
         answer: Answer::Done,
         sent: send_copies(sends, out, met.copies, &classes, bare),
@@ -75,7 +85,11 @@ fn bring(
 
 // A Data that came in on a face, past ageing.
 pub fn data(
-    m: &mut Memory,
+    time: u64,
+    faces: Faces,
+    p: &mut Pending,
+    stored: &mut Store,
+    nonces: &mut Dead,
     sends: &mut Sends,
     out: &mut [u8],
     rows: &mut Rows,
@@ -84,16 +98,19 @@ pub fn data(
     bare: &[u8],
     d: Data,
 ) -> Came
-    ensures goes { After (λ n. guarded (length out.old) (length bare.now) (length (name_of bare.now)) n
-        (data_step n.time n face (offer_found bare.now d) bare.now)) made result (lent m) (output (lent sends) (lent out) (lent rows)) }
-    ensures stays { DataStays (lent m) }
+    ensures goes { (r : Routes) → After (λ n. guarded (length out.old) (length bare.now) (length (name_of bare.now)) n
+        (data_step n.time n face (offer_found bare.now d) bare.now)) made result
+        (memory (still time) (still faces) (still r) (lent p) (lent stored) (lent nonces)) (output (lent sends) (lent out) (lent rows)) }
+    ensures rows { RowsStay p.old p.new }
 {
     let name = find_name(bare);
-    if let Err(answer) = guard(m.time, out.len(), bare.len(), name.len()) {
+    if let Err(answer) = guard(time, out.len(), bare.len(), name.len()) {
         return quiet(answer, made);
     }
-    if is_out_of_scope(m.faces, face, name) {
+    if is_out_of_scope(faces, face, name) {
         return quiet(Answer::Scope, made);
     }
-    bring(m, sends, out, rows, made, face, name, bare, d)
+    bring(
+        time, faces, p, stored, nonces, sends, out, rows, made, face, name, bare, d,
+    )
 }

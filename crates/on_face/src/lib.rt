@@ -6,19 +6,24 @@ ghost use Rattle.sizes.specs.Sizes.{most_faces};
 ghost use Rattle.records.specs.Face.{is_face};
 ghost use Rattle.faces.specs.Places.View.{view};
 ghost use Rattle.rules.specs.Node as rules;
+ghost use Rattle.routes.specs.declared.Routes.{Routes};
+ghost use Rattle.store.specs.declared.Store.{Store};
 ghost use Rattle.rows.specs.Lent.{lent, shown};
-ghost use Rattle.event.specs.Memory.{output};
+ghost use Rattle.event.specs.Memory.{memory, still, output};
 ghost use Rattle.event.specs.Comes.{Stepped};
-ghost use Rattle.event.specs.Stays.{TablesStay, StoreStays};
+ghost use Rattle.pending_table.specs.Places.Stays.{RecordsStay};
 ghost use Rattle.routes.specs.Places.Stays.{PrefixesStay, CostsStay};
 ghost use Rattle.on_face.specs.Turns.{FacesBy, LinkFor};
 ghost use Rattle.event.specs.Places.Begins.{answer_of};
 
 use answers::Answer;
-use event::{Came, Memory, begins, is_not_open, quiet};
+use dead::Dead;
+use event::{Came, begins, is_not_open, quiet};
 use faces::{Faces, Link};
 use happenings::Rows;
 use names::FNV_START;
+use pending_table::Pending;
+use routes::Routes;
 use sending::Sends;
 use sizes::FACES;
 
@@ -60,7 +65,10 @@ fn opening(faces: &mut Faces, face: usize, scope: u64, link: u64) -> Result<(), 
 
 // A face is opened.
 pub fn open_face(
-    m: &mut Memory,
+    last: &mut u64,
+    faces: &mut Faces,
+    p: &mut Pending,
+    nonces: &mut Dead,
     sends: &Sends,
     out: &[u8],
     rows: &mut Rows,
@@ -69,14 +77,15 @@ pub fn open_face(
     scope: u64,
     link: u64,
 ) -> Came
-    ensures stepped { Stepped time (rules.open_face face scope link) result (lent m) (output (shown sends) (shown out) (lent rows)) }
-    ensures stays { TablesStay (lent m) }
+    ensures stepped { (r : Routes) (s : Store) → Stepped time (rules.open_face face scope link) result
+        (memory (lent last) (lent faces) (still r) (lent p) (still s) (lent nonces)) (output (shown sends) (shown out) (lent rows)) }
+    ensures records { RecordsStay p.old p.new }
 {
     let bad = is_no_face(face);
-    match begins(m, sends, out, rows, time, bad) {
+    match begins(last, p, nonces, sends, out, rows, time, bad) {
         Err(answer) => quiet(answer, 0),
         Ok(made) => {
-            let then = opening(&mut m.faces, face, scope, link);
+            let then = opening(faces, face, scope, link);
             quiet(then.err().unwrap_or(Answer::Done), made)
         }
     }
@@ -84,33 +93,30 @@ pub fn open_face(
 
 // A face is closed: "Closing goes by entry, oldest opening first .. Its next hops go too".
 pub fn close_face(
-    m: &mut Memory,
+    last: &mut u64,
+    faces: &mut Faces,
+    known: &mut Routes,
+    p: &mut Pending,
+    nonces: &mut Dead,
     sends: &Sends,
     out: &[u8],
     rows: &mut Rows,
     time: u64,
     face: usize,
 ) -> Came
-    ensures stepped { Stepped time (rules.close_face face) result (lent m) (output (shown sends) (shown out) (lent rows)) }
-    ensures stays { StoreStays (lent m) }
-    ensures prefixes { PrefixesStay m.old.routes m.new.routes }
-    ensures costs { CostsStay m.old.routes m.new.routes }
+    ensures stepped { (s : Store) → Stepped time (rules.close_face face) result
+        (memory (lent last) (lent faces) (lent known) (lent p) (still s) (lent nonces)) (output (shown sends) (shown out) (lent rows)) }
+    ensures records { RecordsStay p.old p.new }
+    ensures prefixes { PrefixesStay known.old known.new }
+    ensures costs { CostsStay known.old known.new }
 {
-    let bad = is_not_open(m.faces, face);
-    match begins(m, sends, out, rows, time, bad) {
+    let bad = is_not_open(*faces, face);
+    match begins(last, p, nonces, sends, out, rows, time, bad) {
         Err(answer) => quiet(answer, 0),
         Ok(made) => {
-            let noted = pending_pass::close_face(
-                &mut m.pending,
-                &mut m.dead,
-                rows,
-                made,
-                FNV_START,
-                time,
-                face,
-            );
-            m.routes.drop_face(face);
-            m.faces = m.faces.with_closed(face);
+            let noted = pending_pass::close_face(p, nonces, rows, made, FNV_START, time, face);
+            known.drop_face(face);
+            *faces = faces.with_closed(face);
             quiet(Answer::Done, noted)
         }
     }

@@ -13,15 +13,18 @@ ghost use Rattle.records.specs.Happening.{opened, happens};
 ghost use Rattle.records.specs.Rows.{row_of};
 ghost use Rattle.records.specs.Stored.{Hit};
 ghost use Rattle.happenings.specs.Noted.{Noted};
-ghost use Rattle.faces.specs.Places.View as faces;
+ghost use Rattle.faces.specs.Places.View.{view};
+ghost use Rattle.faces.specs.declared.Faces.{Faces};
 ghost use Rattle.dead.specs.Places.View as dead;
+ghost use Rattle.dead.specs.declared.Dead.{Dead};
 ghost use Rattle.pending_table.specs.Places.View as pending;
+ghost use Rattle.pending_table.specs.declared.Pending.{Pending};
 ghost use Rattle.store.specs.Places.View as store;
+ghost use Rattle.store.specs.declared.Store.{Store};
 ghost use Rattle.rules.specs.Node.{Node};
 ghost use Rattle.rules.specs.Interest.{Arrival, hop_is_zero, out_of_scope, served, asks_again, asks_entry, interest_step};
-ghost use Rattle.rows.specs.Lent.{lent};
-ghost use Rattle.event.specs.Memory.{output};
-ghost use Rattle.event.specs.Stays.{InterestStays};
+ghost use Rattle.rows.specs.Lent.{lent, shown};
+ghost use Rattle.event.specs.Memory.{memory, still, output};
 ghost use Rattle.event.specs.Places.Begins.{allowed};
 ghost use Rattle.coming.specs.Goes.{After, guard_says, guarded};
 ghost use Rattle.coming.specs.Places.Found.{limit_of, arrival_found};
@@ -30,7 +33,8 @@ ghost use Rattle.on_interest.specs.Places.Sought.{checked, Sees};
 
 use answers::Answer;
 use coming::{guard, is_out_of_scope};
-use event::{Came, Memory, quiet};
+use dead::Dead;
+use event::{Came, quiet};
 use faces::Faces;
 use happenings::{Fate, Rows, note_fate};
 use names::FNV_START;
@@ -38,7 +42,9 @@ use opening::{refused, route};
 use packethead::find_name;
 use packets::{HopLimit, Interest};
 use pending_table::{Handle, Pending};
+use routes::Routes;
 use sending::{Sends, class_for, send_data, send_interest};
+use store::Store;
 use ways::{expiry_of, is_zero, loops, next_hop};
 
 // The reason of a loop's Nack.
@@ -53,7 +59,8 @@ struct Seen {
 
 // "a hit sends that Data back and opens nothing"
 fn serve(
-    m: &mut Memory,
+    known: &Routes,
+    stored: &mut Store,
     sends: &mut Sends,
     out: &mut [u8],
     made: usize,
@@ -61,15 +68,14 @@ fn serve(
     hit: store::Handle,
 ) -> Came
     requires { least_buffer ≤ length out.old }
-    ensures goes { (rows : List (List ℕ)) (a : Arrival) (h : Hit) → a.face ≡ face → h.place ≡ store.placed m.old.store hit
-        → store.found m.old.store hit ≡ some h.what
-        → After (λ n. served n a h) made result (lent m) (output (lent sends) (lent out) (record { entry = rows; exit = rows })) }
-    ensures stays { InterestStays (lent m) }
+    ensures { (t : ℕ) (f : Faces) (p : Pending) (d : Dead) (rows : List (List ℕ)) (a : Arrival) (h : Hit) → a.face ≡ face
+        → h.place ≡ store.placed stored.old hit → store.found stored.old hit ≡ some h.what → After (λ n. served n a h) made result
+        (memory (still t) (still f) (shown known) (still p) (lent stored) (still d)) (output (lent sends) (lent out) (still rows)) }
 {
-    let bytes = m.store.bytes_of(hit);
-    let class = class_for(&m.routes, find_name(bytes));
+    let bytes = stored.bytes_of(hit);
+    let class = class_for(known, find_name(bytes));
     let sent = send_data(sends, out, face, class, bytes);
-    m.store.touch(hit);
+    stored.touch(hit);
     Came {
         answer: Answer::Done,
         sent,
@@ -101,7 +107,10 @@ fn note_opening(
 
 // "Entry present: open this face's request, or renew it with the new nonce and expiry", and send it on if there is a hop for it.
 fn ask_again(
-    m: &mut Memory,
+    time: u64,
+    faces: Faces,
+    known: &Routes,
+    p: &mut Pending,
     sends: &mut Sends,
     out: &mut [u8],
     rows: &mut Rows,
@@ -112,20 +121,19 @@ fn ask_again(
     bare: &[u8],
     i: Interest,
 ) -> Came
-    requires { Guarded m.old.time (length out.old) bare.now name.now }
-    ensures goes { (e : Entry) → pending.entry_at m.old.pending h ≡ some e
-        → After (λ n. asks_again n.time n (arrival_found face bare.now i) (pending.place_of m.old.pending h) e) made result (lent m)
-        (output (lent sends) (lent out) (lent rows)) }
-    ensures stays { InterestStays (lent m) }
+    requires { Guarded time (length out.old) bare.now name.now }
+    ensures { (s : Store) (d : Dead) (e : Entry) → pending.entry_at p.old h ≡ some e
+        → After (λ n. asks_again n.time n (arrival_found face bare.now i) (pending.place_of p.old h) e) made result
+        (memory (still time) (still faces) (shown known) (lent p) (still s) (still d)) (output (lent sends) (lent out) (lent rows)) }
 {
-    let expiry = expiry_of(m.time, i.lifetime);
-    let class = m.pending.facts_of(h).class;
-    let noted = note_opening(&m.pending, rows, made, h, face, class, i.nonce, expiry);
-    pending_handle::renew(&mut m.pending, h, face, i.nonce, expiry);
-    let Some(to) = next_hop(m.time, m.faces, &m.routes, &m.pending, h, face, name, i.hop) else {
+    let expiry = expiry_of(time, i.lifetime);
+    let class = p.facts_of(h).class;
+    let noted = note_opening(p, rows, made, h, face, class, i.nonce, expiry);
+    pending_handle::renew(p, h, face, i.nonce, expiry);
+    let Some(to) = next_hop(time, faces, known, p, h, face, name, i.hop) else {
         return quiet(Answer::Done, noted);
     };
-    pending_handle::send(&mut m.pending, h, to, i.nonce, m.time);
+    pending_handle::send(p, h, to, i.nonce, time);
     Came {
         answer: Answer::Done,
         sent: send_interest(sends, out, to, class, bare, i.hop),
@@ -135,7 +143,11 @@ fn ask_again(
 
 // "No entry: look in the store .. Otherwise take the longest matching route."
 fn ask_anew(
-    m: &mut Memory,
+    time: u64,
+    faces: Faces,
+    known: &Routes,
+    p: &mut Pending,
+    stored: &mut Store,
     sends: &mut Sends,
     out: &mut [u8],
     rows: &mut Rows,
@@ -145,41 +157,36 @@ fn ask_anew(
     bare: &[u8],
     i: Interest,
 ) -> Came
-    requires { Guarded m.old.time (length out.old) bare.now name.now }
-    ensures goes { After (λ n. asks_entry n.time n (arrival_found face bare.now i) none) made result (lent m)
-        (output (lent sends) (lent out) (lent rows)) }
-    ensures stays { InterestStays (lent m) }
+    requires { Guarded time (length out.old) bare.now name.now }
+    ensures { (d : Dead) → After (λ n. asks_entry n.time n (arrival_found face bare.now i) none) made result
+        (memory (still time) (still faces) (shown known) (lent p) (lent stored) (still d)) (output (lent sends) (lent out) (lent rows)) }
 {
-    match m.store.look(name, i.can_be_prefix, i.must_be_fresh, m.time) {
-        Some(hit) => serve(m, sends, out, made, face, hit),
+    match stored.look(name, i.can_be_prefix, i.must_be_fresh, time) {
+        Some(hit) => serve(known, stored, sends, out, made, face, hit),
         None => route(
-            m.time,
-            m.faces,
-            &m.routes,
-            &mut m.pending,
-            sends,
-            out,
-            rows,
-            made,
-            face,
-            name,
-            bare,
-            i,
+            time, faces, known, p, sends, out, rows, made, face, name, bare, i,
         ),
     }
 }
 
 // What an Interest meets in the pending table and among the dead nonces.
-fn see(m: &Memory, face: usize, name: &[u8], i: Interest) -> Seen
-    ensures { Sees result m.now.time (faces.view m.now.faces) (pending.view m.now.pending) (dead.view m.now.dead) face name.now i
-        (pending.place_of m.now.pending) }
+fn see(
+    time: u64,
+    faces: Faces,
+    p: &Pending,
+    nonces: &Dead,
+    face: usize,
+    name: &[u8],
+    i: Interest,
+) -> Seen
+    ensures { Sees result time (view faces) (pending.view p.now) (dead.view nonces.now) face name.now i (pending.place_of p.now) }
 {
-    let handle = m.pending.find(name, i.can_be_prefix, i.must_be_fresh);
+    let handle = p.find(name, i.can_be_prefix, i.must_be_fresh);
     let looped = loops(
-        m.time, m.faces, &m.pending, &m.dead, FNV_START, handle, face, name, i.nonce,
+        time, faces, p, nonces, FNV_START, handle, face, name, i.nonce,
     );
     Seen {
-        entry: m.pending.is_there(handle).then_some(handle),
+        entry: p.is_there(handle).then_some(handle),
         loops: looped,
     }
 }
@@ -194,7 +201,7 @@ fn check(
     bare: &[u8],
     hop: Option<HopLimit>,
 ) -> Result<(), Answer>
-    ensures { (n : Node) → n.faces ≡ faces.view known
+    ensures { (n : Node) → n.faces ≡ view known
         → result ≡ allowed (checked (guard_says time room (length bare.now) (length name.now)) (hop_is_zero (limit_of hop))
         (out_of_scope n face name.now)) }
 {
@@ -210,7 +217,12 @@ fn check(
 
 // An Interest that came in on a face, past ageing.
 pub fn interest(
-    m: &mut Memory,
+    time: u64,
+    faces: Faces,
+    known: &Routes,
+    p: &mut Pending,
+    stored: &mut Store,
+    nonces: &Dead,
     sends: &mut Sends,
     out: &mut [u8],
     rows: &mut Rows,
@@ -219,31 +231,28 @@ pub fn interest(
     bare: &[u8],
     i: Interest,
 ) -> Came
-    ensures goes { After (λ n. guarded (length out.old) (length bare.now) (length (name_of bare.now)) n
-        (interest_step n.time n (arrival_found face bare.now i))) made result (lent m) (output (lent sends) (lent out) (lent rows)) }
-    ensures stays { InterestStays (lent m) }
+    ensures { After (λ n. guarded (length out.old) (length bare.now) (length (name_of bare.now)) n
+        (interest_step n.time n (arrival_found face bare.now i))) made result
+        (memory (still time) (still faces) (shown known) (lent p) (lent stored) (shown nonces))
+        (output (lent sends) (lent out) (lent rows)) }
 {
     let name = find_name(bare);
-    if let Err(answer) = check(m.time, m.faces, out.len(), face, name, bare, i.hop) {
+    if let Err(answer) = check(time, faces, out.len(), face, name, bare, i.hop) {
         return quiet(answer, made);
     }
-    let seen = see(m, face, name, i);
+    let seen = see(time, faces, p, nonces, face, name, i);
     if seen.loops {
+        let answer = Answer::Loop;
         return refused(
-            m.faces,
-            &m.routes,
-            sends,
-            out,
-            made,
-            face,
-            Answer::Loop,
-            DUPLICATE,
-            name,
-            i,
+            faces, known, sends, out, made, face, answer, DUPLICATE, name, i,
         );
     }
     match seen.entry {
-        Some(h) => ask_again(m, sends, out, rows, made, h, face, name, bare, i),
-        None => ask_anew(m, sends, out, rows, made, face, name, bare, i),
+        Some(h) => ask_again(
+            time, faces, known, p, sends, out, rows, made, h, face, name, bare, i,
+        ),
+        None => ask_anew(
+            time, faces, known, p, stored, sends, out, rows, made, face, name, bare, i,
+        ),
     }
 }

@@ -9,19 +9,22 @@ ghost use Rattle.records.specs.Entry.{Entry, is_known, smallest_reason, with_nac
 ghost use Rattle.packethead.specs.Name.{name_of};
 ghost use Rattle.packets.specs.Meaning.{Ask};
 ghost use Rattle.rules.specs.Nack.{ends_by_nack, nacked_entry, nack_step};
+ghost use Rattle.routes.specs.declared.Routes.{Routes};
+ghost use Rattle.store.specs.declared.Store.{Store};
 ghost use Rattle.rows.specs.Lent.{lent};
 ghost use Rattle.pending_table.specs.Places.View.{place_of, entry_at};
+ghost use Rattle.pending_table.specs.Places.Stays.{NamesStay};
 ghost use Rattle.sending.specs.Places.Sheet.{PacksIn};
-ghost use Rattle.event.specs.Memory.{output};
-ghost use Rattle.event.specs.Stays.{NackStays};
+ghost use Rattle.event.specs.Memory.{memory, still, output};
 ghost use Rattle.coming.specs.Goes.{After, guarded};
 ghost use Rattle.coming.specs.Places.Found.{ask_found};
 ghost use Rattle.on_nack.specs.Places.Nacks.{nonce_at, nacks_on};
 
 use answers::Answer;
 use coming::{guard, is_out_of_scope};
-use event::{Came, Memory, quiet};
-use faces::{Walk, common};
+use dead::Dead;
+use event::{Came, quiet};
+use faces::{Faces, Walk, common};
 use happenings::{Fate, Rows};
 use names::FNV_START;
 use packethead::find_name;
@@ -76,7 +79,10 @@ fn send_nacks(
 
 // "each point-to-point request ends by a Nack with its own nonce and the smallest nonzero reason, or 0. Others stay open."
 fn end_by_nack(
-    m: &mut Memory,
+    time: u64,
+    faces: Faces,
+    p: &mut Pending,
+    nonces: &mut Dead,
     sends: &mut Sends,
     out: &mut [u8],
     rows: &mut Rows,
@@ -89,21 +95,20 @@ fn end_by_nack(
 ) -> Came
     requires name_fits { length name.now ≤ most_name }
     requires buffer_fits { least_buffer ≤ length out.old }
-    ensures goes { (e : Entry) → entry_at m.old.pending h ≡ some e → is_known name.now prefix fresh e ≡ true
+    ensures goes { (r : Routes) (s : Store) (e : Entry) → entry_at p.old h ≡ some e → is_known name.now prefix fresh e ≡ true
         → reason ≡ smallest_reason (held e.sent)
-        → After (λ n. ends_by_nack n.time n (place_of m.old.pending h) e) made result (lent m) (output (lent sends) (lent out)
-        (lent rows)) }
-    ensures stays { NackStays (lent m) }
+        → After (λ n. ends_by_nack n.time n (place_of p.old h) e) made result
+        (memory (still time) (still faces) (still r) (lent p) (still s) (lent nonces)) (output (lent sends) (lent out) (lent rows)) }
+    ensures names { NamesStay p.old p.new }
 {
-    let p = &mut m.pending;
     let asking = asking_faces(p, h);
-    let all = m.faces.all_peer();
+    let all = faces.all_peer();
     let peers = common(asking, all);
     let class = p.facts_of(h).class;
     let sent = send_nacks(p, sends, out, h, peers, class, reason, name, prefix, fresh);
     let noted = note_requests(p, h, rows, made, peers, Fate::Nacked);
     end_requests(p, h, peers);
-    leave_if_idle(p, h, &mut m.dead, FNV_START, m.time);
+    leave_if_idle(p, h, nonces, FNV_START, time);
     Came {
         answer: Answer::Done,
         sent,
@@ -113,7 +118,10 @@ fn end_by_nack(
 
 // A Nack for an out-record of the entry of a handle.
 fn mark(
-    m: &mut Memory,
+    time: u64,
+    faces: Faces,
+    p: &mut Pending,
+    nonces: &mut Dead,
     sends: &mut Sends,
     out: &mut [u8],
     rows: &mut Rows,
@@ -127,17 +135,19 @@ fn mark(
 ) -> Came
     requires name_fits { length name.now ≤ most_name }
     requires buffer_fits { least_buffer ≤ length out.old }
-    ensures goes { (e : Entry) → entry_at m.old.pending h ≡ some e → is_known name.now prefix fresh e ≡ true
-        → After (λ n. nacked_entry n.time n (place_of m.old.pending h) (with_nack face reason e)) made result (lent m)
-        (output (lent sends) (lent out) (lent rows)) }
-    ensures stays { NackStays (lent m) }
+    ensures goes { (r : Routes) (s : Store) (e : Entry) → entry_at p.old h ≡ some e → is_known name.now prefix fresh e ≡ true
+        → After (λ n. nacked_entry n.time n (place_of p.old h) (with_nack face reason e)) made result
+        (memory (still time) (still faces) (still r) (lent p) (still s) (lent nonces)) (output (lent sends) (lent out) (lent rows)) }
+    ensures names { NamesStay p.old p.new }
 {
-    mark_nacked(&mut m.pending, h, face, reason);
-    match all_nacked(&m.pending, h) {
+    mark_nacked(p, h, face, reason);
+    match all_nacked(p, h) {
         None => quiet(Answer::Done, made),
         Some(least) => {
             let least = (least % 256) as u8;
-            end_by_nack(m, sends, out, rows, made, h, least, name, prefix, fresh)
+            end_by_nack(
+                time, faces, p, nonces, sends, out, rows, made, h, least, name, prefix, fresh,
+            )
         }
     }
 }
@@ -145,7 +155,10 @@ fn mark(
 // A Nack that came in on a face: "STALE_NACK exactly when the face is not point-to-point, or has no out-record with this nonce in that
 // entry."
 fn take(
-    m: &mut Memory,
+    time: u64,
+    faces: Faces,
+    p: &mut Pending,
+    nonces: &mut Dead,
     sends: &mut Sends,
     out: &mut [u8],
     rows: &mut Rows,
@@ -157,31 +170,36 @@ fn take(
 ) -> Came
     requires name_fits { length name.now ≤ most_name }
     requires buffer_fits { least_buffer ≤ length out.old }
-    ensures goes { (a : Ask) → a.name ≡ name.now → a.can_be_prefix ≡ i.can_be_prefix → a.must_be_fresh ≡ i.must_be_fresh
+    ensures goes { (r : Routes) (s : Store) (a : Ask) → a.name ≡ name.now
+        → a.can_be_prefix ≡ i.can_be_prefix → a.must_be_fresh ≡ i.must_be_fresh
         → a.nonce ≡ i.nonce
-        → After (λ n. nack_step n.time n face reason a) made result (lent m) (output (lent sends) (lent out) (lent rows)) }
-    ensures stays { NackStays (lent m) }
+        → After (λ n. nack_step n.time n face reason a) made result
+        (memory (still time) (still faces) (still r) (lent p) (still s) (lent nonces)) (output (lent sends) (lent out) (lent rows)) }
+    ensures names { NamesStay p.old p.new }
 {
-    if is_out_of_scope(m.faces, face, name) {
+    if is_out_of_scope(faces, face, name) {
         return quiet(Answer::Scope, made);
     }
-    if !m.faces.is_peer(face) {
+    if !faces.is_peer(face) {
         return quiet(Answer::StaleNack, made);
     }
     let prefix = i.can_be_prefix;
     let fresh = i.must_be_fresh;
-    let h = m.pending.find(name, prefix, fresh);
-    if !sent_nonce(&m.pending, h, face, i.nonce) {
+    let h = p.find(name, prefix, fresh);
+    if !sent_nonce(p, h, face, i.nonce) {
         return quiet(Answer::StaleNack, made);
     }
     mark(
-        m, sends, out, rows, made, h, face, reason, name, prefix, fresh,
+        time, faces, p, nonces, sends, out, rows, made, h, face, reason, name, prefix, fresh,
     )
 }
 
 // A Nack that came in on a face, past ageing.
 pub fn nack(
-    m: &mut Memory,
+    time: u64,
+    faces: Faces,
+    p: &mut Pending,
+    nonces: &mut Dead,
     sends: &mut Sends,
     out: &mut [u8],
     rows: &mut Rows,
@@ -191,13 +209,16 @@ pub fn nack(
     bare: &[u8],
     i: Interest,
 ) -> Came
-    ensures goes { After (λ n. guarded (length out.old) (length bare.now) (length (name_of bare.now)) n
-        (nack_step n.time n face reason (ask_found bare.now i))) made result (lent m) (output (lent sends) (lent out) (lent rows)) }
-    ensures stays { NackStays (lent m) }
+    ensures goes { (r : Routes) (s : Store) → After (λ n. guarded (length out.old) (length bare.now) (length (name_of bare.now)) n
+        (nack_step n.time n face reason (ask_found bare.now i))) made result
+        (memory (still time) (still faces) (still r) (lent p) (still s) (lent nonces)) (output (lent sends) (lent out) (lent rows)) }
+    ensures names { NamesStay p.old p.new }
 {
     let name = find_name(bare);
-    if let Err(answer) = guard(m.time, out.len(), bare.len(), name.len()) {
+    if let Err(answer) = guard(time, out.len(), bare.len(), name.len()) {
         return quiet(answer, made);
     }
-    take(m, sends, out, rows, made, face, reason, name, i)
+    take(
+        time, faces, p, nonces, sends, out, rows, made, face, reason, name, i,
+    )
 }

@@ -4,20 +4,25 @@
 ghost use Rattle.std.specs.Prelude.{◌≡◌};
 ghost use Rattle.sizes.specs.Sizes.{most_faces};
 ghost use Rattle.records.specs.Class.{class_of, is_class};
+ghost use Rattle.faces.specs.declared.Faces.{Faces};
+ghost use Rattle.store.specs.declared.Store.{Store};
 ghost use Rattle.routes.specs.Places.View.{view};
 ghost use Rattle.rules.specs.Node as rules;
 ghost use Rattle.rules.specs.Step.{bad_face};
 ghost use Rattle.rows.specs.Lent.{lent, shown};
-ghost use Rattle.event.specs.Memory.{output, node_of};
+ghost use Rattle.event.specs.Memory.{memory, still, output, node_of};
 ghost use Rattle.event.specs.Comes.{Stepped};
-ghost use Rattle.event.specs.Stays.{StoreStays};
+ghost use Rattle.pending_table.specs.Places.Stays.{RecordsStay};
 ghost use Rattle.routes.specs.Places.Stays.{PrefixesStay, CostsStay};
 ghost use Rattle.event.specs.Places.Begins.{allowed, answer_of};
 ghost use Rattle.on_route.specs.Turns.{RoutesBy, Turns, Keeps, prefix_says};
 
 use answers::Answer;
-use event::{Came, Memory, begins, is_not_open, quiet};
+use dead::Dead;
+use event::{Came, begins, is_not_open, quiet};
+use faces::Faces;
 use happenings::Rows;
+use pending_table::Pending;
 use routes::Routes;
 use sending::Sends;
 use sizes::{COMPONENTS, MOST_COST, NAME};
@@ -42,7 +47,10 @@ fn check(prefix: &[u8]) -> Result<(), Answer>
 // A command that changes the routes alone, as a whole event, where `bad` says that its face is refused: refused where it begins, or what
 // `turn` makes of the routes of the aged node, and answers.
 fn turning<F: FnOnce(&mut Routes) -> Result<(), Answer>>(
-    m: &mut Memory,
+    last: &mut u64,
+    known: &mut Routes,
+    p: &mut Pending,
+    nonces: &mut Dead,
     sends: &Sends,
     out: &[u8],
     rows: &mut Rows,
@@ -51,16 +59,18 @@ fn turning<F: FnOnce(&mut Routes) -> Result<(), Answer>>(
     turn: F,
 ) -> Came
     requires { F.IsAlwaysCallable turn }
-    ensures stepped { (w : rules.What) → bad ≡ bad_face most_faces (node_of m.old) w → Turns (F.post turn) w
-        → Stepped time w result (lent m) (output (shown sends) (shown out) (lent rows)) }
-    ensures stays { StoreStays (lent m) }
-    ensures prefixes { Keeps (F.post turn) PrefixesStay → PrefixesStay m.old.routes m.new.routes }
-    ensures costs { Keeps (F.post turn) CostsStay → CostsStay m.old.routes m.new.routes }
+    ensures stepped { (f : Faces) (s : Store) (w : rules.What)
+        → bad ≡ bad_face most_faces (node_of (memory (lent last) (still f) (lent known) (lent p) (still s) (lent nonces)).entry) w
+        → Turns (F.post turn) w → Stepped time w result
+        (memory (lent last) (still f) (lent known) (lent p) (still s) (lent nonces)) (output (shown sends) (shown out) (lent rows)) }
+    ensures records { RecordsStay p.old p.new }
+    ensures prefixes { Keeps (F.post turn) PrefixesStay → PrefixesStay known.old known.new }
+    ensures costs { Keeps (F.post turn) CostsStay → CostsStay known.old known.new }
 {
-    match begins(m, sends, out, rows, time, bad) {
+    match begins(last, p, nonces, sends, out, rows, time, bad) {
         Err(answer) => quiet(answer, 0),
         Ok(made) => {
-            let then = turn(&mut m.routes);
+            let then = turn(known);
             quiet(then.err().unwrap_or(Answer::Done), made)
         }
     }
@@ -78,19 +88,32 @@ fn dropping(known: &mut Routes, prefix: &[u8]) -> Result<(), Answer>
 
 // A route is dropped.
 pub fn drop_route(
-    m: &mut Memory,
+    last: &mut u64,
+    known: &mut Routes,
+    p: &mut Pending,
+    nonces: &mut Dead,
     sends: &Sends,
     out: &[u8],
     rows: &mut Rows,
     time: u64,
     prefix: &[u8],
 ) -> Came
-    ensures stepped { Stepped time (rules.drop_route prefix.now) result (lent m) (output (shown sends) (shown out) (lent rows)) }
-    ensures stays { StoreStays (lent m) }
+    ensures stepped { (f : Faces) (s : Store) → Stepped time (rules.drop_route prefix.now) result
+        (memory (lent last) (still f) (lent known) (lent p) (still s) (lent nonces)) (output (shown sends) (shown out) (lent rows)) }
+    ensures records { RecordsStay p.old p.new }
 {
-    turning(m, sends, out, rows, time, false, |known| {
-        dropping(known, prefix)
-    })
+    turning(
+        last,
+        known,
+        p,
+        nonces,
+        sends,
+        out,
+        rows,
+        time,
+        false,
+        |known| { dropping(known, prefix) },
+    )
 }
 
 // Whether a word is a class: "1 alarm, 2 monitoring, 3 bulk".
@@ -119,7 +142,10 @@ fn setting(known: &mut Routes, class: u64, prefix: &[u8]) -> Result<(), Answer>
 
 // A route is set.
 pub fn set_route(
-    m: &mut Memory,
+    last: &mut u64,
+    known: &mut Routes,
+    p: &mut Pending,
+    nonces: &mut Dead,
     sends: &Sends,
     out: &[u8],
     rows: &mut Rows,
@@ -127,13 +153,23 @@ pub fn set_route(
     class: u64,
     prefix: &[u8],
 ) -> Came
-    ensures stepped { Stepped time (rules.set_route class prefix.now) result (lent m) (output (shown sends) (shown out) (lent rows)) }
-    ensures stays { StoreStays (lent m) }
-    ensures costs { CostsStay m.old.routes m.new.routes }
+    ensures stepped { (f : Faces) (s : Store) → Stepped time (rules.set_route class prefix.now) result
+        (memory (lent last) (still f) (lent known) (lent p) (still s) (lent nonces)) (output (shown sends) (shown out) (lent rows)) }
+    ensures records { RecordsStay p.old p.new }
+    ensures costs { CostsStay known.old known.new }
 {
-    turning(m, sends, out, rows, time, false, |known| {
-        setting(known, class, prefix)
-    })
+    turning(
+        last,
+        known,
+        p,
+        nonces,
+        sends,
+        out,
+        rows,
+        time,
+        false,
+        |known| { setting(known, class, prefix) },
+    )
 }
 
 // A hop is added: "Adding a known hop changes its cost."
@@ -152,7 +188,11 @@ fn adding_hop(known: &mut Routes, face: usize, cost: u64, prefix: &[u8]) -> Resu
 
 // A hop is added.
 pub fn add_hop(
-    m: &mut Memory,
+    last: &mut u64,
+    faces: Faces,
+    known: &mut Routes,
+    p: &mut Pending,
+    nonces: &mut Dead,
     sends: &Sends,
     out: &[u8],
     rows: &mut Rows,
@@ -161,14 +201,24 @@ pub fn add_hop(
     cost: u64,
     prefix: &[u8],
 ) -> Came
-    ensures stepped { Stepped time (rules.add_hop face cost prefix.now) result (lent m) (output (shown sends) (shown out) (lent rows)) }
-    ensures stays { StoreStays (lent m) }
-    ensures prefixes { PrefixesStay m.old.routes m.new.routes }
+    ensures stepped { (s : Store) → Stepped time (rules.add_hop face cost prefix.now) result
+        (memory (lent last) (still faces) (lent known) (lent p) (still s) (lent nonces)) (output (shown sends) (shown out) (lent rows)) }
+    ensures records { RecordsStay p.old p.new }
+    ensures prefixes { PrefixesStay known.old known.new }
 {
-    let bad = is_not_open(m.faces, face);
-    turning(m, sends, out, rows, time, bad, |known| {
-        adding_hop(known, face, cost, prefix)
-    })
+    let bad = is_not_open(faces, face);
+    turning(
+        last,
+        known,
+        p,
+        nonces,
+        sends,
+        out,
+        rows,
+        time,
+        bad,
+        |known| { adding_hop(known, face, cost, prefix) },
+    )
 }
 
 // A hop is dropped: "A hop or drop on something absent is 10."
@@ -188,7 +238,11 @@ fn dropping_hop(known: &mut Routes, face: usize, prefix: &[u8]) -> Result<(), An
 
 // A hop is dropped.
 pub fn drop_hop(
-    m: &mut Memory,
+    last: &mut u64,
+    faces: Faces,
+    known: &mut Routes,
+    p: &mut Pending,
+    nonces: &mut Dead,
     sends: &Sends,
     out: &[u8],
     rows: &mut Rows,
@@ -196,13 +250,23 @@ pub fn drop_hop(
     face: usize,
     prefix: &[u8],
 ) -> Came
-    ensures stepped { Stepped time (rules.drop_hop face prefix.now) result (lent m) (output (shown sends) (shown out) (lent rows)) }
-    ensures stays { StoreStays (lent m) }
-    ensures prefixes { PrefixesStay m.old.routes m.new.routes }
-    ensures costs { CostsStay m.old.routes m.new.routes }
+    ensures stepped { (s : Store) → Stepped time (rules.drop_hop face prefix.now) result
+        (memory (lent last) (still faces) (lent known) (lent p) (still s) (lent nonces)) (output (shown sends) (shown out) (lent rows)) }
+    ensures records { RecordsStay p.old p.new }
+    ensures prefixes { PrefixesStay known.old known.new }
+    ensures costs { CostsStay known.old known.new }
 {
-    let bad = is_not_open(m.faces, face);
-    turning(m, sends, out, rows, time, bad, |known| {
-        dropping_hop(known, face, prefix)
-    })
+    let bad = is_not_open(faces, face);
+    turning(
+        last,
+        known,
+        p,
+        nonces,
+        sends,
+        out,
+        rows,
+        time,
+        bad,
+        |known| { dropping_hop(known, face, prefix) },
+    )
 }

@@ -6,7 +6,7 @@ use Rattle.event.specs.Laws.Begins.{begins_refused, begins_aged}
 use Rattle.event.proofs.begins.Goals as goal
 
 pub returns-in_err-check-clause-begun : goal.returns-in_err-check-clause-begun
-returns-in_err-check-clause-begun c =
+returns-in_err-check-clause-begun c f r s =
     let e = sym c.check.ensures ∙ c.in_err-check.was in
     begins_refused _ _ _ _ _ _ refl (allowed_refuses _ _ e) (allowed_passes c.from_residual.result _ _ c.from_residual.ensures.1 e)
 
@@ -16,16 +16,16 @@ returns-in_err-check-clause-refused c =
     rw (allowed_passes c.from_residual.result _ _ c.from_residual.ensures.1 e) (allowed_refuses _ _ e)
 
 pub returns-clause-begun : goal.returns-clause-begun
-returns-clause-begun c =
+returns-clause-begun c f r s =
     begins_aged _ _ _ _ _ _ _ _ _ _ _ _ refl (allowed_zero _ _ (sym c.check.ensures ∙ c.in_ok-check.was)) refl c.age.ensures.ages
 
--- ageing leaves the names, the records and the numbers, and no other table but the dead nonces is lent to it
-pub returns-clause-stays : goal.returns-clause-stays
-returns-clause-stays c = record { routes = refl; store = refl; pending = c.age.ensures.records }
+-- ageing leaves the names, the records and the numbers
+pub returns-clause-records : goal.returns-clause-records
+returns-clause-records c = c.age.ensures.records
 
-pub returns-in_err-check-clause-stays : goal.returns-in_err-check-clause-stays
-returns-in_err-check-clause-stays c = record { routes = refl; store = refl; pending = records_stayed _ }
+pub returns-in_err-check-clause-records : goal.returns-in_err-check-clause-records
+returns-in_err-check-clause-records c = records_stayed _
 
 pub returns-in_err-check-clause-kept : goal.returns-in_err-check-clause-kept
 returns-in_err-check-clause-kept c =
-    rw (allowed_passes c.from_residual.result _ _ c.from_residual.ensures.1 (sym c.check.ensures ∙ c.in_err-check.was)) refl
+    rw (allowed_passes c.from_residual.result _ _ c.from_residual.ensures.1 (sym c.check.ensures ∙ c.in_err-check.was)) (refl, refl, refl)

@@ -6,9 +6,10 @@ use Rattle.event.proofs.clock.Goals as goal
 
 pub returns-in-Ok-clause-stepped : goal.returns-in-Ok-clause-stepped
 unfolding began
-returns-in-Ok-clause-stepped c = comes_by _ _ _ _ _ _ _ (clock_begins _ _ _ _ _) (comes_is _ _ _ _ _ _ _ c.quiet.ensures c.in-Ok.ensures.begun)
+returns-in-Ok-clause-stepped c f r s =
+    comes_by _ _ _ _ _ _ _ (clock_begins _ _ _ _ _) (comes_is _ _ _ _ _ _ _ c.quiet.ensures (c.in-Ok.ensures.begun f r s))
 
 pub returns-in-Err-clause-stepped : goal.returns-in-Err-clause-stepped
 unfolding began
-returns-in-Err-clause-stepped c =
-    comes_by _ _ _ _ _ _ _ (clock_begins _ _ _ _ _) (comes_is _ _ _ _ _ _ _ c.quiet-in-Err.ensures c.in-Err.ensures.begun)
+returns-in-Err-clause-stepped c f r s =
+    comes_by _ _ _ _ _ _ _ (clock_begins _ _ _ _ _) (comes_is _ _ _ _ _ _ _ c.quiet-in-Err.ensures (c.in-Err.ensures.begun f r s))

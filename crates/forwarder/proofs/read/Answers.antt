@@ -12,20 +12,14 @@ overflow_add-bare c = record { fits = (read_found _ _ c.read_header.ensures _ c.
 pub slice_bounds-bare-end : goal.slice_bounds-bare-end
 slice_bounds-bare-end c = (read_found c.args.bytes.now _ c.read_header.ensures _ c.in-Ok.is).inside
 
-pub returns-in-Err-clause-goes : goal.returns-in-Err-clause-goes
+pub returns-in-Err : goal.returns-in-Err
 unfolding node_of
-returns-in-Err-clause-goes c =
+returns-in-Err c =
     goes_is _ _ _ _ _ _ _ c.quiet.ensures
     (read_refused _ _ c.read_header.ensures _ c.in-Err.is _ _ _ _ _ _ refl refl refl)
 
-pub returns-in-Ok-clause-goes : goal.returns-in-Ok-clause-goes
+pub returns-in-Ok : goal.returns-in-Ok
 unfolding node_of
-returns-in-Ok-clause-goes c =
+returns-in-Ok c =
     read_comes _ _ c.read_header.ensures _ c.in-Ok.is _ _ _ _ _ _ _ _
-    (rw add-sub_cancel_left at c.arrive.ensures.goes)
-
-pub returns-in-Err-clause-routes : goal.returns-in-Err-clause-routes
-returns-in-Err-clause-routes c = refl
-
-pub returns-in-Ok-clause-routes : goal.returns-in-Ok-clause-routes
-returns-in-Ok-clause-routes c = c.arrive.ensures.routes
+    (rw add-sub_cancel_left at c.arrive.ensures)

@@ -4,14 +4,14 @@ use Rattle.on_data.specs.Laws.Data.{brings_none, brings_some}
 use Rattle.on_data.proofs.bring.Goals as goal
 
 pub returns-then-size-stood-clause-goes : goal.returns-then-size-stood-clause-goes
-returns-then-size-stood-clause-goes c =
+returns-then-size-stood-clause-goes c r =
     brings_none _ _ _ _ _ _ _ _ _ _ _ _ _ _
     c.requires.name_is
     c.satisfy-met.ensures.satisfies _ _
     c.size.ensures c.size-stood.ensures _ _ _ c.if-size-stood.true c.quiet.ensures
 
 pub returns-clause-goes : goal.returns-clause-goes
-returns-clause-goes c =
+returns-clause-goes c r =
     brings_some _ _ _ _ _ _ _ _ _ _ _ _ _ _
     c.requires.name_is
     c.satisfy-met.ensures.satisfies _ _
@@ -23,9 +23,3 @@ returns-clause-goes c =
     c.freshness_of.ensures
     c.put.ensures.puts
     c.send_copies.ensures refl
-
-pub returns-then-size-stood-clause-stays : goal.returns-then-size-stood-clause-stays
-returns-then-size-stood-clause-stays c = record { routes = refl; pending = c.satisfy-met.ensures.rows }
-
-pub returns-clause-stays : goal.returns-clause-stays
-returns-clause-stays c = record { routes = refl; pending = c.satisfy-met.ensures.rows }

@@ -7,10 +7,10 @@ use Rattle.on_data.specs.Laws.Data.{data_stops, data_scope, data_brings}
 use Rattle.on_data.proofs.data.Goals as goal
 
 pub returns-in-Err-clause-goes : goal.returns-in-Err-clause-goes
-returns-in-Err-clause-goes c = data_stops _ _ _ _ _ _ _ c.find_name-name.ensures _ _ (sym c.in-Err.ensures) c.quiet.ensures
+returns-in-Err-clause-goes c r = data_stops _ _ _ _ _ _ _ c.find_name-name.ensures _ _ (sym c.in-Err.ensures) c.quiet.ensures
 
 pub returns-then-is_out_of_scope-clause-goes : goal.returns-then-is_out_of_scope-clause-goes
-returns-then-is_out_of_scope-clause-goes c =
+returns-then-is_out_of_scope-clause-goes c r =
     data_scope _ _ _ _ _ _ _ c.find_name-name.ensures _ (sym c.in_default.ensures) _
     c.is_out_of_scope.ensures _
     c.if-is_out_of_scope.true c.quiet-then-is_out_of_scope.ensures
@@ -25,16 +25,13 @@ bring-requires c =
     }
 
 pub returns-clause-goes : goal.returns-clause-goes
-returns-clause-goes c =
+returns-clause-goes c r =
     data_brings _ _ _ _ _ _ _ c.find_name-name.ensures _ (sym c.in_default.ensures) _
     c.is_out_of_scope.ensures _ _ _
-    c.if-is_out_of_scope.false c.bring.ensures.goes
+    c.if-is_out_of_scope.false (c.bring.ensures.goes r)
 
-pub returns-in-Err-clause-stays : goal.returns-in-Err-clause-stays
-returns-in-Err-clause-stays c = record { routes = refl; pending = rows_stayed _ }
+pub returns-in-Err-clause-rows : goal.returns-in-Err-clause-rows
+returns-in-Err-clause-rows c = rows_stayed _
 
-pub returns-then-is_out_of_scope-clause-stays : goal.returns-then-is_out_of_scope-clause-stays
-returns-then-is_out_of_scope-clause-stays c = record { routes = refl; pending = rows_stayed _ }
-
-pub returns-clause-stays : goal.returns-clause-stays
-returns-clause-stays c = c.bring.ensures.stays
+pub returns-then-is_out_of_scope-clause-rows : goal.returns-then-is_out_of_scope-clause-rows
+returns-then-is_out_of_scope-clause-rows c = rows_stayed _

@@ -8,18 +8,14 @@ use Rattle.on_face.proofs.open_face.Goals as goal
 
 pub returns-in-Err-clause-stepped : goal.returns-in-Err-clause-stepped
 unfolding began
-returns-in-Err-clause-stepped c =
+returns-in-Err-clause-stepped c r s =
     comes_is _ _ _ _ _ _ _ c.quiet.ensures
-    (step_refused _ _ _ _ _ _ _ _ _ _ (open_bad _ _ _ _ _ c.is_no_face-bad.ensures) c.in-Err.ensures.begun c.in-Err.ensures.refused)
+    (step_refused _ _ _ _ _ _ _ _ _ _ (open_bad _ _ _ _ _ c.is_no_face-bad.ensures) (c.in-Err.ensures.begun _ r s) c.in-Err.ensures.refused)
 
 pub returns-in-Ok-clause-stepped : goal.returns-in-Ok-clause-stepped
 unfolding began
-returns-in-Ok-clause-stepped c =
+returns-in-Ok-clause-stepped c r s =
     step_on _ _ _ _ _ _ _ _ _ _ (open_bad _ _ _ _ _ c.is_no_face-bad.ensures)
-    c.in-Ok.ensures.begun _ _ _ refl
+    (c.in-Ok.ensures.begun _ r s) _ _ _ refl
     (λ _. comes_faces _ _ _ _ _ _ _ _ _ c.opening-then.ensures (rw c.err.ensures.value at c.unwrap_or.ensures)
     c.quiet-in-Ok.ensures)
-
-pub returns-in-Ok-clause-stays : goal.returns-in-Ok-clause-stays
-returns-in-Ok-clause-stays c =
-    let s = c.in-Ok.ensures.stays in record { routes = s.routes; store = s.store; pending = s.pending }

@@ -1,22 +1,20 @@
 -- By the store.
-use Rattle.std.proofs.Math.Path.{refl}
+use Rattle.event.specs.declared.Memory.{Memory}
 use Rattle.on_interest.specs.Laws.Anew.{anew_serves, anew_routes}
 use Rattle.on_interest.proofs.ask_anew.Goals as goal
 
-pub returns-in-Some-clause-goes : goal.returns-in-Some-clause-goes
-returns-in-Some-clause-goes c =
+pub returns-in-Some : goal.returns-in-Some
+returns-in-Some c d =
     let a = c.args in
-    anew_serves a.m.now a.made a.face a.bare.now a.name.now a.i c.requires.own _ c.look.ensures _ _ _ _ _
-    c.in-Some.is (c.serve.ensures.goes a.rows.now)
+    let m : Memory =
+    record { time = a.time; faces = a.faces; routes = a.known.now; pending = a.p.now; store = a.stored.now; dead = d } in
+    anew_serves m a.made a.face a.bare.now a.name.now a.i c.requires.own _ c.look.ensures _ _ _ _ _
+    c.in-Some.is (c.serve.ensures a.time a.faces a.p.now d a.rows.now)
 
-pub returns-in-None-clause-goes : goal.returns-in-None-clause-goes
-returns-in-None-clause-goes c =
+pub returns-in-None : goal.returns-in-None
+returns-in-None c d =
     let a = c.args in
-    anew_routes a.m.now a.made a.face a.bare.now a.name.now a.i c.requires.own _ c.look.ensures _ _ _ _
-    c.in-None.is c.requires (c.route.ensures a.m.now.store a.m.now.dead)
-
-pub returns-in-Some-clause-stays : goal.returns-in-Some-clause-stays
-returns-in-Some-clause-stays c = c.serve.ensures.stays
-
-pub returns-in-None-clause-stays : goal.returns-in-None-clause-stays
-returns-in-None-clause-stays c = record { routes = refl; dead = refl }
+    let m : Memory =
+    record { time = a.time; faces = a.faces; routes = a.known.now; pending = a.p.now; store = a.stored.now; dead = d } in
+    anew_routes m a.made a.face a.bare.now a.name.now a.i c.requires.own _ c.look.ensures _ _ _ _
+    c.in-None.is c.requires (c.route.ensures a.stored.now d)

@@ -3,6 +3,7 @@ use mathlib.Core.Path.{refl, sym, ap, ◌∙◌}
 use mathlib.Core.List.{List}
 use Prim.Native.Nat.{ℕ}
 use lib.ListN.{length}
+use Rattle.event.specs.declared.Memory.{Memory}
 use Rattle.event.specs.Memory.{node_of}
 use Rattle.event.specs.Laws.Allowed.{allowed_err, allowed_refuses, allowed_zero}
 use Rattle.coming.specs.Goes.{guard_says}
@@ -14,13 +15,14 @@ use Rattle.on_nack.proofs.nack.Goals as goal
 
 pub returns-in-Err-clause-goes : goal.returns-in-Err-clause-goes
 unfolding node_of
-returns-in-Err-clause-goes c =
+returns-in-Err-clause-goes c r s =
     let a = c.args in
-    let n = node_of a.m.now in
+    let m : Memory = record { time = a.time; faces = a.faces; routes = r; pending = a.p.now; store = s; dead = a.nonces.now } in
+    let n = node_of m in
     let e = sym c.guard.ensures ∙ c.in-Err.is in
     let y = allowed_err _ _ e in
     goes_refused _ a.made _ _ _ _ _ n _
-    (y ∙ ap (λ (l : List ℕ). guard_says a.m.now.time (length a.out.now) (length a.bare.now) (length l)) c.find_name-name.ensures)
+    (y ∙ ap (λ (l : List ℕ). guard_says a.time (length a.out.now) (length a.bare.now) (length l)) c.find_name-name.ensures)
     (rw y (allowed_refuses _ _ e)) c.quiet.ensures
 
 pub take-requires : goal.take-requires
@@ -30,15 +32,13 @@ take-requires c =
 
 pub returns-clause-goes : goal.returns-clause-goes
 unfolding node_of ask_found
-returns-clause-goes c =
+returns-clause-goes c r s =
     let a = c.args in
-    goes_turns _ a.made _ _ _ _ _ (node_of a.m.now) _
-    (ap (λ (l : List ℕ). guard_says a.m.now.time (length a.out.now) (length a.bare.now) (length l)) c.find_name-name.ensures)
+    let m : Memory = record { time = a.time; faces = a.faces; routes = r; pending = a.p.now; store = s; dead = a.nonces.now } in
+    goes_turns _ a.made _ _ _ _ _ (node_of m) _
+    (ap (λ (l : List ℕ). guard_says a.time (length a.out.now) (length a.bare.now) (length l)) c.find_name-name.ensures)
     _ _ (allowed_zero _ _ (sym c.guard.ensures ∙ c.in_default.is))
-    (c.take.ensures.goes (ask_found a.bare.now a.i) (sym c.find_name-name.ensures) refl refl refl)
+    (c.take.ensures.goes r s (ask_found a.bare.now a.i) (sym c.find_name-name.ensures) refl refl refl)
 
-pub returns-in-Err-clause-stays : goal.returns-in-Err-clause-stays
-returns-in-Err-clause-stays c = record { routes = refl; store = refl; pending = names_stayed _ }
-
-pub returns-clause-stays : goal.returns-clause-stays
-returns-clause-stays c = c.take.ensures.stays
+pub returns-in-Err-clause-names : goal.returns-in-Err-clause-names
+returns-in-Err-clause-names c = names_stayed _

@@ -7,8 +7,8 @@ use Rattle.on_route.proofs.add_hop.Goals as goal
 
 pub returns-clause-stepped : goal.returns-clause-stepped
 unfolding node_of
-returns-clause-stepped c =
-    c.turning.ensures.stepped (rule.add_hop c.args.face c.args.cost c.args.prefix.now) (add_bad _ _ _ c.is_not_open-bad.ensures _ _)
+returns-clause-stepped c s =
+    c.turning.ensures.stepped _ s (rule.add_hop c.args.face c.args.cost c.args.prefix.now) (add_bad _ _ _ c.is_not_open-bad.ensures _ _)
     (λ t r t' q. search rules)
 
 pub returns-clause-prefixes : goal.returns-clause-prefixes

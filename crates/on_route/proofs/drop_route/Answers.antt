@@ -5,4 +5,4 @@ use Rattle.on_route.specs.Laws.Faces.{drop_bad}
 use Rattle.on_route.proofs.drop_route.Goals as goal
 
 pub returns-clause-stepped : goal.returns-clause-stepped
-returns-clause-stepped c = c.turning.ensures.stepped (rule.drop_route c.args.prefix.now) (drop_bad _ _) (λ t r t' q. search rules)
+returns-clause-stepped c f s = c.turning.ensures.stepped f s (rule.drop_route c.args.prefix.now) (drop_bad _ _) (λ t r t' q. search rules)
