@@ -13,6 +13,7 @@ use event::{Came, quiet};
 use faces::Faces;
 use happenings::Rows;
 use packets::{Packet, read_bare};
+use pending_pass::{Leaving, Marking};
 use pending_table::Pending;
 use routes::Routes;
 use sending::Sends;
@@ -48,11 +49,29 @@ pub fn arrive(
         Ok(Packet::Interest(i)) => on_interest::interest(
             time, faces, known, p, stored, nonces, sends, out, rows, made, face, bare, i,
         ),
-        Ok(Packet::Data(d)) => on_data::data(
-            time, faces, p, stored, nonces, sends, out, rows, made, face, bare, d,
-        ),
-        Ok(Packet::Nack(reason, i)) => on_nack::nack(
-            time, faces, p, nonces, sends, out, rows, made, face, reason, bare, i,
-        ),
+        Ok(Packet::Data(d)) => {
+            let left = Leaving {
+                names: &p.names,
+                heads: &p.heads,
+                recs: &p.recs,
+                numbers: &p.numbers,
+                used: &mut p.used,
+            };
+            on_data::data(
+                time, faces, left, stored, nonces, sends, out, rows, made, face, bare, d,
+            )
+        }
+        Ok(Packet::Nack(reason, i)) => {
+            let marked = Marking {
+                names: &p.names,
+                heads: &mut p.heads,
+                recs: &mut p.recs,
+                numbers: &p.numbers,
+                used: &mut p.used,
+            };
+            on_nack::nack(
+                time, faces, marked, nonces, sends, out, rows, made, face, reason, bare, i,
+            )
+        }
     }
 }

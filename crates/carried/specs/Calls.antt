@@ -10,6 +10,8 @@ use borrow.Fn.Kinds.{Dens, ended_of, res_t}
 use Rattle.rows.specs.Lent.{Lent}
 use Rattle.rules.specs.Node.{What, Event}
 use Rattle.rules.specs.Node as rules
+use Rattle.routes.specs.Places.Lent.{setting_lent, hopping_lent, dropping_lent}
+use Rattle.pending_pass.specs.Places.Lent.{ageing_lent}
 use Rattle.event.specs.declared.Came.{Came}
 use Rattle.event.specs.declared.Memory.{Memory}
 use Rattle.faces.specs.declared.Faces.{Faces}
@@ -55,6 +57,10 @@ lent e x = record { entry = e.now; exit = x.now }
 abbrev shown : {A : Type 0} → Bor A → Bor A → Lent A
 shown e x = record { entry = e.now; exit = x.now }
 
+-- what was lent in a struct by value, from its two ends
+abbrev both : {A B : Type 0} → A → B → Both A B
+both e x = record { entry = e; exit = x }
+
 -- a call of one of the eight functions, as its contract has it, and what of the memory it is not lent
 pub data Made : Call → Type 1 where
   packet : (κs : Lfts 9) (a : Dens κs packet-kinds.ps) (x : (res_t packet-kinds.r κs).Denot)
@@ -73,7 +79,7 @@ pub data Made : Call → Type 1 where
       → Made (record {
         time = a.1.1.1.1.1.1.0;
         what = rules.clock;
-        memory = memory (lent a.0 s.0) (still f) (still r) (lent a.1.0 s.1.0) (still d) (lent a.1.1.0 s.1.1.0);
+        memory = memory (lent a.0 s.0) (still f) (still r) (ageing_lent (both a.1.0 s.1.0)) (still d) (lent a.1.1.0 s.1.1.0);
         output = output (shown a.1.1.1.0 s.1.1.1.0) (shown a.1.1.1.1.0 s.1.1.1.1.0) (lent a.1.1.1.1.1.0 s.1.1.1.1.1.0);
         came = x;
       })
@@ -82,7 +88,8 @@ pub data Made : Call → Type 1 where
       → Made (record {
         time = a.1.1.1.1.1.1.1.0;
         what = rules.open_face a.1.1.1.1.1.1.1.1.0 a.1.1.1.1.1.1.1.1.1.0 a.1.1.1.1.1.1.1.1.1.1.0;
-        memory = memory (lent a.0 s.0) (lent a.1.0 s.1.0) (still r) (lent a.1.1.0 s.1.1.0) (still d) (lent a.1.1.1.0 s.1.1.1.0);
+        memory = memory (lent a.0 s.0) (lent a.1.0 s.1.0) (still r) (ageing_lent (both a.1.1.0 s.1.1.0)) (still d)
+            (lent a.1.1.1.0 s.1.1.1.0);
         output = output (shown a.1.1.1.1.0 s.1.1.1.1.0) (shown a.1.1.1.1.1.0 s.1.1.1.1.1.0) (lent a.1.1.1.1.1.1.0 s.1.1.1.1.1.1.0);
         came = x;
       })
@@ -91,8 +98,8 @@ pub data Made : Call → Type 1 where
       → Made (record {
         time = a.1.1.1.1.1.1.1.1.0;
         what = rules.close_face a.1.1.1.1.1.1.1.1.1.0;
-        memory = memory (lent a.0 s.0) (lent a.1.0 s.1.0) (lent a.1.1.0 s.1.1.0) (lent a.1.1.1.0 s.1.1.1.0) (still d)
-            (lent a.1.1.1.1.0 s.1.1.1.1.0);
+        memory = memory (lent a.0 s.0) (lent a.1.0 s.1.0) (dropping_lent (both a.1.1.0 s.1.1.0)) (ageing_lent (both a.1.1.1.0 s.1.1.1.0))
+            (still d) (lent a.1.1.1.1.0 s.1.1.1.1.0);
         output = output (shown a.1.1.1.1.1.0 s.1.1.1.1.1.0) (shown a.1.1.1.1.1.1.0 s.1.1.1.1.1.1.0)
             (lent a.1.1.1.1.1.1.1.0 s.1.1.1.1.1.1.1.0);
         came = x;
@@ -102,7 +109,8 @@ pub data Made : Call → Type 1 where
       → Made (record {
         time = a.1.1.1.1.1.1.1.0;
         what = rules.set_route a.1.1.1.1.1.1.1.1.0 a.1.1.1.1.1.1.1.1.1.0.now;
-        memory = memory (lent a.0 s.0) (still f) (lent a.1.0 s.1.0) (lent a.1.1.0 s.1.1.0) (still d) (lent a.1.1.1.0 s.1.1.1.0);
+        memory = memory (lent a.0 s.0) (still f) (setting_lent (both a.1.0 s.1.0)) (ageing_lent (both a.1.1.0 s.1.1.0)) (still d)
+            (lent a.1.1.1.0 s.1.1.1.0);
         output = output (shown a.1.1.1.1.0 s.1.1.1.1.0) (shown a.1.1.1.1.1.0 s.1.1.1.1.1.0) (lent a.1.1.1.1.1.1.0 s.1.1.1.1.1.1.0);
         came = x;
       })
@@ -111,7 +119,8 @@ pub data Made : Call → Type 1 where
       → Made (record {
         time = a.1.1.1.1.1.1.1.0;
         what = rules.drop_route a.1.1.1.1.1.1.1.1.0.now;
-        memory = memory (lent a.0 s.0) (still f) (lent a.1.0 s.1.0) (lent a.1.1.0 s.1.1.0) (still d) (lent a.1.1.1.0 s.1.1.1.0);
+        memory = memory (lent a.0 s.0) (still f) (lent a.1.0 s.1.0) (ageing_lent (both a.1.1.0 s.1.1.0)) (still d)
+            (lent a.1.1.1.0 s.1.1.1.0);
         output = output (shown a.1.1.1.1.0 s.1.1.1.1.0) (shown a.1.1.1.1.1.0 s.1.1.1.1.1.0) (lent a.1.1.1.1.1.1.0 s.1.1.1.1.1.1.0);
         came = x;
       })
@@ -120,7 +129,8 @@ pub data Made : Call → Type 1 where
       → Made (record {
         time = a.1.1.1.1.1.1.1.1.0;
         what = rules.add_hop a.1.1.1.1.1.1.1.1.1.0 a.1.1.1.1.1.1.1.1.1.1.0 a.1.1.1.1.1.1.1.1.1.1.1.0.now;
-        memory = memory (lent a.0 s.0) (still a.1.0) (lent a.1.1.0 s.1.1.0) (lent a.1.1.1.0 s.1.1.1.0) (still d)
+        memory = memory (lent a.0 s.0) (still a.1.0) (hopping_lent (both a.1.1.0 s.1.1.0)) (ageing_lent (both a.1.1.1.0 s.1.1.1.0))
+            (still d)
             (lent a.1.1.1.1.0 s.1.1.1.1.0);
         output = output (shown a.1.1.1.1.1.0 s.1.1.1.1.1.0) (shown a.1.1.1.1.1.1.0 s.1.1.1.1.1.1.0)
             (lent a.1.1.1.1.1.1.1.0 s.1.1.1.1.1.1.1.0);
@@ -131,7 +141,8 @@ pub data Made : Call → Type 1 where
       → Made (record {
         time = a.1.1.1.1.1.1.1.1.0;
         what = rules.drop_hop a.1.1.1.1.1.1.1.1.1.0 a.1.1.1.1.1.1.1.1.1.1.0.now;
-        memory = memory (lent a.0 s.0) (still a.1.0) (lent a.1.1.0 s.1.1.0) (lent a.1.1.1.0 s.1.1.1.0) (still d)
+        memory = memory (lent a.0 s.0) (still a.1.0) (dropping_lent (both a.1.1.0 s.1.1.0)) (ageing_lent (both a.1.1.1.0 s.1.1.1.0))
+            (still d)
             (lent a.1.1.1.1.0 s.1.1.1.1.0);
         output = output (shown a.1.1.1.1.1.0 s.1.1.1.1.1.0) (shown a.1.1.1.1.1.1.0 s.1.1.1.1.1.1.0)
             (lent a.1.1.1.1.1.1.1.0 s.1.1.1.1.1.1.1.0);

@@ -19,12 +19,12 @@ pub struct Row {
     pub time: u64,
 }
 
-// The lines, where the oldest one stands, and how many there are. Nobody above reads its fields.
+// The lines, where the oldest one stands, and how many there are: a count of 0 empties it. Nobody above reads its fields.
 #[derive(Clone, Copy)]
 pub struct Dead {
     pub lines: [Row; DEAD],
-    at: usize,
-    count: usize,
+    pub at: usize,
+    pub count: usize,
 }
 
 impl Row {

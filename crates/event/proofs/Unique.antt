@@ -13,6 +13,7 @@ use Rattle.answers.specs.declared.Answer.{Answer}
 use Rattle.answers.specs.Number.{number_of}
 use Rattle.rows.specs.Lent.{Lent}
 use Rattle.rules.specs.Node as rules
+use Rattle.pending_pass.specs.Places.Lent.{ageing_lent}
 use Rattle.event.specs.declared.Memory.{Memory}
 use Rattle.faces.specs.declared.Faces.{Faces}
 use Rattle.routes.specs.declared.Routes.{Routes}
@@ -76,7 +77,8 @@ module _ (κs : Lfts 6) where
   -- the memory of the beginning of an event at entry and at exit, with the tables that it is not lent
   abbrev begins_memory : Faces → Routes → Store → Dens κs begins-kinds.ps → AtExit (ended_of 6 begins-kinds.ps begins-kinds.r) κs
       → Both Memory Memory
-  begins_memory f r d a s = memory (lent a.0 s.0) (still f) (still r) (lent a.1.0 s.1.0) (still d) (lent a.1.1.0 s.1.1.0)
+  begins_memory f r d a s = memory (lent a.0 s.0) (still f) (still r) (ageing_lent (record { entry = a.1.0; exit = s.1.0 })) (still d)
+      (lent a.1.1.0 s.1.1.0)
 
   -- its output at entry and at exit
   abbrev begins_output : Dens κs begins-kinds.ps → AtExit (ended_of 6 begins-kinds.ps begins-kinds.r) κs → Both Output Output
@@ -110,7 +112,8 @@ module _ (κs : Lfts 6) where
   -- the memory of a reading of the clock at entry and at exit, with the tables that it is not lent
   abbrev pub clock_memory : Faces → Routes → Store → Dens κs clock-kinds.ps → AtExit (ended_of 6 clock-kinds.ps clock-kinds.r) κs
       → Both Memory Memory
-  clock_memory f r d a s = memory (lent a.0 s.0) (still f) (still r) (lent a.1.0 s.1.0) (still d) (lent a.1.1.0 s.1.1.0)
+  clock_memory f r d a s = memory (lent a.0 s.0) (still f) (still r) (ageing_lent (record { entry = a.1.0; exit = s.1.0 })) (still d)
+      (lent a.1.1.0 s.1.1.0)
 
   -- its output at entry and at exit
   abbrev pub clock_output : Dens κs clock-kinds.ps → AtExit (ended_of 6 clock-kinds.ps clock-kinds.r) κs → Both Output Output
@@ -127,7 +130,7 @@ module _ (κs : Lfts 6) where
       (clock_output a s).exit (clock_output b t).exit
   clock_same f g r q d e a b x y s t et n o p w =
       stepped_same x y (clock_memory f r d a s) (clock_memory g q e b t) (clock_output a s) (clock_output b t) n o
-      _ _ rules.clock rules.clock et refl (p.0 f r d) (w.0 g q e)
+      _ _ rules.clock rules.clock et refl (p f r d) (w g q e)
 
   -- two outcomes of a reading of the clock
   pub clock_one : (f : Faces) (r : Routes) (d : Store) (a : Dens κs clock-kinds.ps) (x y : (res_t clock-kinds.r κs).Denot)

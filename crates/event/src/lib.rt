@@ -9,7 +9,7 @@ ghost use Rattle.faces.specs.Places.View.{view};
 ghost use Rattle.faces.specs.declared.Faces.{Faces};
 ghost use Rattle.routes.specs.declared.Routes.{Routes};
 ghost use Rattle.store.specs.declared.Store.{Store};
-ghost use Rattle.pending_table.specs.Places.Stays.{RecordsStay};
+ghost use Rattle.pending_pass.specs.Places.Lent.{ageing_lent};
 ghost use Rattle.rules.specs.Node as rules;
 ghost use Rattle.rows.specs.Lent.{lent, shown};
 ghost use Rattle.event.specs.Memory.{node_of, memory, still, output};
@@ -22,7 +22,7 @@ use dead::Dead;
 use faces::Faces;
 use happenings::Rows;
 use names::FNV_START;
-use pending_pass::age;
+use pending_pass::{Ageing, age};
 use pending_table::Pending;
 use routes::Routes;
 use sending::Sends;
@@ -115,7 +115,7 @@ fn check(last: u64, time: u64, room: usize, bad: bool) -> Result<(), Answer>
 // time and ages the tables". The answer of a refusal, or how many happenings are noted. Whatever the faces, the routes and the store are.
 pub fn begins(
     last: &mut u64,
-    p: &mut Pending,
+    p: Ageing,
     nonces: &mut Dead,
     sends: &Sends,
     out: &[u8],
@@ -124,10 +124,9 @@ pub fn begins(
     bad: bool,
 ) -> Result<usize, Answer>
     ensures begun { (f : Faces) (r : Routes) (s : Store) → Begun time bad (began result)
-        (memory (lent last) (still f) (still r) (lent p) (still s) (lent nonces)) (output (shown sends) (shown out) (lent rows)) }
+        (memory (lent last) (still f) (still r) (ageing_lent p) (still s) (lent nonces)) (output (shown sends) (shown out) (lent rows)) }
     ensures refused { IfErr result (λ a. number_of a ≢ 0) }
-    ensures kept { IfErr result (λ _. (last.new ≡ last.old) × (p.new ≡ p.old) × (nonces.new ≡ nonces.old)) }
-    ensures records { RecordsStay p.old p.new }
+    ensures kept { IfErr result (λ _. (last.new ≡ last.old) × ((ageing_lent p).exit ≡ (ageing_lent p).entry) × (nonces.new ≡ nonces.old)) }
 {
     check(*last, time, out.len(), bad)?;
     *last = time;
@@ -137,16 +136,15 @@ pub fn begins(
 // The clock is read.
 pub fn clock(
     last: &mut u64,
-    p: &mut Pending,
+    p: Ageing,
     nonces: &mut Dead,
     sends: &Sends,
     out: &[u8],
     rows: &mut Rows,
     time: u64,
 ) -> Came
-    ensures stepped { (f : Faces) (r : Routes) (s : Store) → Stepped time rules.clock result
-        (memory (lent last) (still f) (still r) (lent p) (still s) (lent nonces)) (output (shown sends) (shown out) (lent rows)) }
-    ensures records { RecordsStay p.old p.new }
+    ensures { (f : Faces) (r : Routes) (s : Store) → Stepped time rules.clock result
+        (memory (lent last) (still f) (still r) (ageing_lent p) (still s) (lent nonces)) (output (shown sends) (shown out) (lent rows)) }
 {
     match begins(last, p, nonces, sends, out, rows, time, false) {
         Ok(made) => quiet(Answer::Done, made),

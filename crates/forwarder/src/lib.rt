@@ -15,6 +15,7 @@ use event::{Came, begins, is_not_open, quiet};
 use faces::Faces;
 use happenings::Rows;
 use packethead::read_header;
+use pending_pass::Ageing;
 use pending_table::Pending;
 use routes::Routes;
 use sending::Sends;
@@ -70,7 +71,14 @@ pub fn packet(
         (memory (lent last) (still faces) (shown known) (lent p) (lent stored) (lent nonces)) (output (lent sends) (lent out) (lent rows)) }
 {
     let bad = is_not_open(faces, face);
-    match begins(last, p, nonces, sends, out, rows, time, bad) {
+    let aged = Ageing {
+        names: &p.names,
+        heads: &mut p.heads,
+        recs: &p.recs,
+        numbers: &p.numbers,
+        used: &mut p.used,
+    };
+    match begins(last, aged, nonces, sends, out, rows, time, bad) {
         Err(answer) => quiet(answer, 0),
         Ok(made) => read(
             *last, faces, known, p, stored, nonces, sends, out, rows, made, face, bytes,

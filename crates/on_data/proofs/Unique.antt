@@ -9,6 +9,7 @@ use denote.Triple.Both.{Both}
 use denote.Triple.Clauses.{AtExit}
 use borrow.Fn.Kinds.{Dens, ended_of, res_t}
 use Rattle.rows.specs.Lent.{Lent}
+use Rattle.pending_pass.specs.Places.Lent.{leaving_lent}
 use Rattle.event.specs.declared.Memory.{Memory}
 use Rattle.routes.specs.declared.Routes.{Routes}
 use Rattle.event.specs.Memory.{Output, output, memory, still, node_of}
@@ -25,7 +26,8 @@ module _ (κs : Lfts 7) where
   -- the memory of a Data at entry and at exit, with what it is not lent
   abbrev data_memory : Routes → Dens κs kinds.ps → AtExit (ended_of 7 kinds.ps kinds.r) κs → Both Memory Memory
   data_memory r a s =
-      memory (still a.0) (still a.1.0) (still r) (lent a.1.1.0 s.1.1.0) (lent a.1.1.1.0 s.1.1.1.0) (lent a.1.1.1.1.0 s.1.1.1.1.0)
+      memory (still a.0) (still a.1.0) (still r) (leaving_lent (record { entry = a.1.1.0; exit = s.1.1.0 }))
+      (lent a.1.1.1.0 s.1.1.1.0) (lent a.1.1.1.1.0 s.1.1.1.1.0)
 
   -- its output at entry and at exit
   abbrev data_output : Dens κs kinds.ps → AtExit (ended_of 7 kinds.ps kinds.r) κs → Both Output Output
@@ -46,7 +48,7 @@ module _ (κs : Lfts 7) where
       (data_output a s).exit (data_output b t).exit
   data_same r q a b x y s t ek ef eb ed n o v w =
       data_on_same x y (data_memory r a s) (data_memory q b t) (data_output a s) (data_output b t) n o
-      _ _ _ _ _ _ _ _ ek ef eb ed (v.0 r) (w.0 q)
+      _ _ _ _ _ _ _ _ ek ef eb ed (v r) (w q)
 
   -- two outcomes of a Data
   pub data_one : (r : Routes) (a : Dens κs kinds.ps) (x y : (res_t kinds.r κs).Denot) (s t : AtExit (ended_of 7 kinds.ps kinds.r) κs)

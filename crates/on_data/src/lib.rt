@@ -6,7 +6,7 @@ ghost use Rattle.sizes.specs.Sizes.{most_freshness};
 ghost use Rattle.packethead.specs.Name.{name_of};
 ghost use Rattle.rules.specs.Data.{data_step};
 ghost use Rattle.routes.specs.declared.Routes.{Routes};
-ghost use Rattle.pending_table.specs.Places.Stays.{RowsStay};
+ghost use Rattle.pending_pass.specs.Places.Lent.{leaving_lent};
 ghost use Rattle.rows.specs.Lent.{lent};
 ghost use Rattle.event.specs.Memory.{memory, still, output};
 ghost use Rattle.coming.specs.Goes.{After, guarded};
@@ -22,8 +22,8 @@ use happenings::Rows;
 use names::FNV_START;
 use packethead::find_name;
 use packets::Data;
-use pending_pass::{Classes, satisfy};
-use pending_table::Pending;
+use pending_pass::{Classes, Leaving, satisfy};
+use pending_table::size;
 use sending::{Sends, send_copies};
 use sizes::{FACES, MOST_FRESHNESS};
 use store::Store;
@@ -39,7 +39,7 @@ fn freshness_of(d: Data) -> u64
 fn bring(
     time: u64,
     faces: Faces,
-    p: &mut Pending,
+    p: Leaving,
     stored: &mut Store,
     nonces: &mut Dead,
     sends: &mut Sends,
@@ -52,15 +52,29 @@ fn bring(
     d: Data,
 ) -> Came
     requires { Fits name.now bare.now out.old }
-    ensures goes { (r : Routes) → After (brings face (offer_found bare.now d) bare.now) made result
-        (memory (still time) (still faces) (still r) (lent p) (lent stored) (lent nonces)) (output (lent sends) (lent out) (lent rows)) }
-    ensures rows { RowsStay p.old p.new }
+    ensures { (r : Routes) → After (brings face (offer_found bare.now d) bare.now) made result
+        (memory (still time) (still faces) (still r) (leaving_lent p) (lent stored) (lent nonces))
+        (output (lent sends) (lent out) (lent rows)) }
 {
-    let stood = p.size();
+    let Leaving {
+        names,
+        heads,
+        recs,
+        numbers,
+        used,
+    } = p;
+    let stood = size(*used);
     let adhoc = faces.is_ad_hoc(face);
     let mut classes: Classes = [0; FACES];
+    let t = Leaving {
+        names,
+        heads,
+        recs,
+        numbers,
+        used: &mut *used,
+    };
     let met = satisfy(
-        p,
+        t,
         nonces,
         rows,
         made,
@@ -72,7 +86,7 @@ fn bring(
         &mut classes,
     );
     // Where as many entries stand as before, none matched.
-    if p.size() == stood {
+    if size(*used) == stood {
         return quiet(Answer::Unsolicited, met.made);
     }
     stored.put(bare, time, freshness_of(d));
@@ -87,7 +101,7 @@ fn bring(
 pub fn data(
     time: u64,
     faces: Faces,
-    p: &mut Pending,
+    p: Leaving,
     stored: &mut Store,
     nonces: &mut Dead,
     sends: &mut Sends,
@@ -98,10 +112,10 @@ pub fn data(
     bare: &[u8],
     d: Data,
 ) -> Came
-    ensures goes { (r : Routes) → After (λ n. guarded (length out.old) (length bare.now) (length (name_of bare.now)) n
+    ensures { (r : Routes) → After (λ n. guarded (length out.old) (length bare.now) (length (name_of bare.now)) n
         (data_step n.time n face (offer_found bare.now d) bare.now)) made result
-        (memory (still time) (still faces) (still r) (lent p) (lent stored) (lent nonces)) (output (lent sends) (lent out) (lent rows)) }
-    ensures rows { RowsStay p.old p.new }
+        (memory (still time) (still faces) (still r) (leaving_lent p) (lent stored) (lent nonces))
+        (output (lent sends) (lent out) (lent rows)) }
 {
     let name = find_name(bare);
     if let Err(answer) = guard(time, out.len(), bare.len(), name.len()) {

@@ -10,6 +10,8 @@ use denote.Triple.Clauses.{AtExit}
 use borrow.Fn.Kinds.{Dens, ended_of, res_t}
 use Rattle.rows.specs.Lent.{Lent}
 use Rattle.rules.specs.Node as rules
+use Rattle.routes.specs.Places.Lent.{dropping_lent}
+use Rattle.pending_pass.specs.Places.Lent.{ageing_lent}
 use Rattle.event.specs.declared.Memory.{Memory}
 use Rattle.routes.specs.declared.Routes.{Routes}
 use Rattle.store.specs.declared.Store.{Store}
@@ -33,7 +35,8 @@ module _ (κs : Lfts 7) where
   abbrev pub open_face_memory : Routes → Store → Dens κs open-face-kinds.ps
       → AtExit (ended_of 7 open-face-kinds.ps open-face-kinds.r) κs → Both Memory Memory
   open_face_memory r d a s =
-      memory (lent a.0 s.0) (lent a.1.0 s.1.0) (still r) (lent a.1.1.0 s.1.1.0) (still d) (lent a.1.1.1.0 s.1.1.1.0)
+      memory (lent a.0 s.0) (lent a.1.0 s.1.0) (still r)
+      (ageing_lent (record { entry = a.1.1.0; exit = s.1.1.0 })) (still d) (lent a.1.1.1.0 s.1.1.1.0)
 
   -- its output at entry and at exit
   abbrev pub open_face_output : Dens κs open-face-kinds.ps
@@ -57,7 +60,7 @@ module _ (κs : Lfts 7) where
       (open_face_output a s).exit (open_face_output b t).exit
   open_face_same r q d e a b x y s t et ew n o v w =
       stepped_same x y (open_face_memory r d a s) (open_face_memory q e b t) (open_face_output a s) (open_face_output b t) n o
-      _ _ (open_face_what a) (open_face_what b) et ew (v.0 r d) (w.0 q e)
+      _ _ (open_face_what a) (open_face_what b) et ew (v r d) (w q e)
 
   -- two outcomes of opening a face
   pub open_face_one : (r : Routes) (d : Store) (a : Dens κs open-face-kinds.ps) (x y : (res_t open-face-kinds.r κs).Denot)
@@ -72,7 +75,8 @@ module _ (κs : Lfts 8) where
   abbrev pub close_face_memory : Store → Dens κs close-face-kinds.ps
       → AtExit (ended_of 8 close-face-kinds.ps close-face-kinds.r) κs → Both Memory Memory
   close_face_memory d a s =
-      memory (lent a.0 s.0) (lent a.1.0 s.1.0) (lent a.1.1.0 s.1.1.0) (lent a.1.1.1.0 s.1.1.1.0) (still d) (lent a.1.1.1.1.0 s.1.1.1.1.0)
+      memory (lent a.0 s.0) (lent a.1.0 s.1.0) (dropping_lent (record { entry = a.1.1.0; exit = s.1.1.0 }))
+      (ageing_lent (record { entry = a.1.1.1.0; exit = s.1.1.1.0 })) (still d) (lent a.1.1.1.1.0 s.1.1.1.1.0)
 
   -- its output at entry and at exit
   abbrev pub close_face_output : Dens κs close-face-kinds.ps
@@ -96,7 +100,7 @@ module _ (κs : Lfts 8) where
       (close_face_output a s).exit (close_face_output b t).exit
   close_face_same d e a b x y s t et ew n o v w =
       stepped_same x y (close_face_memory d a s) (close_face_memory e b t) (close_face_output a s) (close_face_output b t) n o
-      _ _ (close_face_what a) (close_face_what b) et ew (v.0 d) (w.0 e)
+      _ _ (close_face_what a) (close_face_what b) et ew (v d) (w e)
 
   -- two outcomes of closing a face
   pub close_face_one : (d : Store) (a : Dens κs close-face-kinds.ps) (x y : (res_t close-face-kinds.r κs).Denot)

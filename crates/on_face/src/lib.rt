@@ -11,8 +11,8 @@ ghost use Rattle.store.specs.declared.Store.{Store};
 ghost use Rattle.rows.specs.Lent.{lent, shown};
 ghost use Rattle.event.specs.Memory.{memory, still, output};
 ghost use Rattle.event.specs.Comes.{Stepped};
-ghost use Rattle.pending_table.specs.Places.Stays.{RecordsStay};
-ghost use Rattle.routes.specs.Places.Stays.{PrefixesStay, CostsStay};
+ghost use Rattle.pending_pass.specs.Places.Lent.{ageing_lent};
+ghost use Rattle.routes.specs.Places.Lent.{dropping_lent};
 ghost use Rattle.on_face.specs.Turns.{FacesBy, LinkFor};
 ghost use Rattle.event.specs.Places.Begins.{answer_of};
 
@@ -22,8 +22,8 @@ use event::{Came, begins, is_not_open, quiet};
 use faces::{Faces, Link};
 use happenings::Rows;
 use names::FNV_START;
-use pending_table::Pending;
-use routes::Routes;
+use pending_pass::Ageing;
+use routes::{Dropping, drop_face};
 use sending::Sends;
 use sizes::FACES;
 
@@ -67,7 +67,7 @@ fn opening(faces: &mut Faces, face: usize, scope: u64, link: u64) -> Result<(), 
 pub fn open_face(
     last: &mut u64,
     faces: &mut Faces,
-    p: &mut Pending,
+    p: Ageing,
     nonces: &mut Dead,
     sends: &Sends,
     out: &[u8],
@@ -77,9 +77,8 @@ pub fn open_face(
     scope: u64,
     link: u64,
 ) -> Came
-    ensures stepped { (r : Routes) (s : Store) → Stepped time (rules.open_face face scope link) result
-        (memory (lent last) (lent faces) (still r) (lent p) (still s) (lent nonces)) (output (shown sends) (shown out) (lent rows)) }
-    ensures records { RecordsStay p.old p.new }
+    ensures { (r : Routes) (s : Store) → Stepped time (rules.open_face face scope link) result
+        (memory (lent last) (lent faces) (still r) (ageing_lent p) (still s) (lent nonces)) (output (shown sends) (shown out) (lent rows)) }
 {
     let bad = is_no_face(face);
     match begins(last, p, nonces, sends, out, rows, time, bad) {
@@ -95,8 +94,8 @@ pub fn open_face(
 pub fn close_face(
     last: &mut u64,
     faces: &mut Faces,
-    known: &mut Routes,
-    p: &mut Pending,
+    known: Dropping,
+    p: Ageing,
     nonces: &mut Dead,
     sends: &Sends,
     out: &[u8],
@@ -104,18 +103,43 @@ pub fn close_face(
     time: u64,
     face: usize,
 ) -> Came
-    ensures stepped { (s : Store) → Stepped time (rules.close_face face) result
-        (memory (lent last) (lent faces) (lent known) (lent p) (still s) (lent nonces)) (output (shown sends) (shown out) (lent rows)) }
-    ensures records { RecordsStay p.old p.new }
-    ensures prefixes { PrefixesStay known.old known.new }
-    ensures costs { CostsStay known.old known.new }
+    ensures { (s : Store) → Stepped time (rules.close_face face) result
+        (memory (lent last) (lent faces) (dropping_lent known) (ageing_lent p) (still s) (lent nonces))
+        (output (shown sends) (shown out) (lent rows)) }
 {
     let bad = is_not_open(*faces, face);
-    match begins(last, p, nonces, sends, out, rows, time, bad) {
+    let Dropping {
+        prefixes: _,
+        rows: routes,
+        costs: _,
+        count: _,
+    } = known;
+    let Ageing {
+        names,
+        heads,
+        recs,
+        numbers,
+        used,
+    } = p;
+    let aged = Ageing {
+        names,
+        heads: &mut *heads,
+        recs,
+        numbers,
+        used: &mut *used,
+    };
+    match begins(last, aged, nonces, sends, out, rows, time, bad) {
         Err(answer) => quiet(answer, 0),
         Ok(made) => {
-            let noted = pending_pass::close_face(p, nonces, rows, made, FNV_START, time, face);
-            known.drop_face(face);
+            let closed = Ageing {
+                names,
+                heads,
+                recs,
+                numbers,
+                used,
+            };
+            let noted = pending_pass::close_face(closed, nonces, rows, made, FNV_START, time, face);
+            drop_face(routes, face);
             *faces = faces.with_closed(face);
             quiet(Answer::Done, noted)
         }

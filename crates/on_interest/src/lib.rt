@@ -18,6 +18,7 @@ ghost use Rattle.faces.specs.declared.Faces.{Faces};
 ghost use Rattle.dead.specs.Places.View as dead;
 ghost use Rattle.dead.specs.declared.Dead.{Dead};
 ghost use Rattle.pending_table.specs.Places.View as pending;
+ghost use Rattle.pending_table.specs.Places.Parts.{seen};
 ghost use Rattle.pending_table.specs.declared.Pending.{Pending};
 ghost use Rattle.store.specs.Places.View as store;
 ghost use Rattle.store.specs.declared.Store.{Store};
@@ -41,10 +42,10 @@ use names::FNV_START;
 use opening::{refused, route};
 use packethead::find_name;
 use packets::{HopLimit, Interest};
-use pending_table::{Handle, Pending};
+use pending_table::{Handle, Pending, Shown, facts_of, find, is_there};
 use routes::Routes;
 use sending::{Sends, class_for, send_data, send_interest};
-use store::Store;
+use store::{Store, bytes_of};
 use ways::{expiry_of, is_zero, loops, next_hop};
 
 // The reason of a loop's Nack.
@@ -72,7 +73,7 @@ fn serve(
         → h.place ≡ store.placed stored.old hit → store.found stored.old hit ≡ some h.what → After (λ n. served n a h) made result
         (memory (still t) (still f) (shown known) (still p) (lent stored) (still d)) (output (lent sends) (lent out) (still rows)) }
 {
-    let bytes = stored.bytes_of(hit);
+    let bytes = bytes_of(&stored.rows, stored.count, hit);
     let class = class_for(known, find_name(bytes));
     let sent = send_data(sends, out, face, class, bytes);
     stored.touch(hit);
@@ -85,7 +86,7 @@ fn serve(
 
 // A request that opens is noted; a renewal is the same request.
 fn note_opening(
-    p: &Pending,
+    p: Shown,
     rows: &mut Rows,
     made: usize,
     h: Handle,
@@ -94,7 +95,7 @@ fn note_opening(
     nonce: u64,
     expiry: u64,
 ) -> usize
-    ensures { (t : ℕ) (e : Entry) → pending.entry_at p.now h ≡ some e → class ≡ class_number e.cls
+    ensures { (t : ℕ) (e : Entry) → pending.entry_at (seen p.entry) h ≡ some e → class ≡ class_number e.cls
         → Noted (lent rows) result made (map row_of (pick (is_some (slot face e.requests)) []
         (happens opened t e (record { face = face; what = record { nonce = nonce; expiry = expiry } }) ∷ []))) }
 {
@@ -127,13 +128,27 @@ fn ask_again(
         (memory (still time) (still faces) (shown known) (lent p) (still s) (still d)) (output (lent sends) (lent out) (lent rows)) }
 {
     let expiry = expiry_of(time, i.lifetime);
-    let class = p.facts_of(h).class;
-    let noted = note_opening(p, rows, made, h, face, class, i.nonce, expiry);
-    pending_handle::renew(p, h, face, i.nonce, expiry);
-    let Some(to) = next_hop(time, faces, known, p, h, face, name, i.hop) else {
+    let class = facts_of(&p.heads, p.used, h).class;
+    let shown = Shown {
+        names: &p.names,
+        heads: &p.heads,
+        recs: &p.recs,
+        numbers: &p.numbers,
+        used: p.used,
+    };
+    let noted = note_opening(shown, rows, made, h, face, class, i.nonce, expiry);
+    pending_handle::renew(&mut p.heads, &mut p.recs, p.used, h, face, i.nonce, expiry);
+    let shown = Shown {
+        names: &p.names,
+        heads: &p.heads,
+        recs: &p.recs,
+        numbers: &p.numbers,
+        used: p.used,
+    };
+    let Some(to) = next_hop(time, faces, known, shown, h, face, name, i.hop) else {
         return quiet(Answer::Done, noted);
     };
-    pending_handle::send(p, h, to, i.nonce, time);
+    pending_handle::send(&mut p.heads, &mut p.recs, p.used, h, to, i.nonce, time);
     Came {
         answer: Answer::Done,
         sent: send_interest(sends, out, to, class, bare, i.hop),
@@ -173,20 +188,29 @@ fn ask_anew(
 fn see(
     time: u64,
     faces: Faces,
-    p: &Pending,
+    p: Shown,
     nonces: &Dead,
     face: usize,
     name: &[u8],
     i: Interest,
 ) -> Seen
-    ensures { Sees result time (view faces) (pending.view p.now) (dead.view nonces.now) face name.now i (pending.place_of p.now) }
+    ensures { Sees result time (view faces) (pending.view (seen p.entry)) (dead.view nonces.now) face name.now i
+        (pending.place_of (seen p.entry)) }
 {
-    let handle = p.find(name, i.can_be_prefix, i.must_be_fresh);
+    let handle = find(
+        p.names,
+        p.heads,
+        p.numbers,
+        p.used,
+        name,
+        i.can_be_prefix,
+        i.must_be_fresh,
+    );
     let looped = loops(
         time, faces, p, nonces, FNV_START, handle, face, name, i.nonce,
     );
     Seen {
-        entry: p.is_there(handle).then_some(handle),
+        entry: is_there(p.used, handle).then_some(handle),
         loops: looped,
     }
 }
@@ -240,7 +264,14 @@ pub fn interest(
     if let Err(answer) = check(time, faces, out.len(), face, name, bare, i.hop) {
         return quiet(answer, made);
     }
-    let seen = see(time, faces, p, nonces, face, name, i);
+    let shown = Shown {
+        names: &p.names,
+        heads: &p.heads,
+        recs: &p.recs,
+        numbers: &p.numbers,
+        used: p.used,
+    };
+    let seen = see(time, faces, shown, nonces, face, name, i);
     if seen.loops {
         let answer = Answer::Loop;
         return refused(

@@ -9,6 +9,7 @@ use denote.Triple.Both.{Both}
 use denote.Triple.Clauses.{AtExit}
 use borrow.Fn.Kinds.{Dens, ended_of, res_t}
 use Rattle.rows.specs.Lent.{Lent}
+use Rattle.pending_pass.specs.Places.Lent.{marking_lent}
 use Rattle.event.specs.declared.Memory.{Memory}
 use Rattle.routes.specs.declared.Routes.{Routes}
 use Rattle.store.specs.declared.Store.{Store}
@@ -26,7 +27,8 @@ module _ (κs : Lfts 6) where
   -- the memory of a Nack at entry and at exit, with what it is not lent
   abbrev pub nack_memory : Routes → Store → Dens κs kinds.ps → AtExit (ended_of 6 kinds.ps kinds.r) κs → Both Memory Memory
   nack_memory r d a s =
-      memory (still a.0) (still a.1.0) (still r) (lent a.1.1.0 s.1.1.0) (still d) (lent a.1.1.1.0 s.1.1.1.0)
+      memory (still a.0) (still a.1.0) (still r) (marking_lent (record { entry = a.1.1.0; exit = s.1.1.0 })) (still d)
+      (lent a.1.1.1.0 s.1.1.1.0)
 
   -- its output at entry and at exit
   abbrev pub nack_output : Dens κs kinds.ps → AtExit (ended_of 6 kinds.ps kinds.r) κs → Both Output Output
@@ -48,7 +50,7 @@ module _ (κs : Lfts 6) where
       (nack_output a s).exit (nack_output b t).exit
   nack_same r q d e a b x y s t ek ef ea eb ed n o v w =
       nack_on_same x y (nack_memory r d a s) (nack_memory q e b t) (nack_output a s) (nack_output b t) n o
-      _ _ _ _ _ _ _ _ _ _ ek ef ea eb ed (v.0 r d) (w.0 q e)
+      _ _ _ _ _ _ _ _ _ _ ek ef ea eb ed (v r d) (w q e)
 
   -- two outcomes of a Nack
   pub nack_one : (r : Routes) (d : Store) (a : Dens κs kinds.ps) (x y : (res_t kinds.r κs).Denot)

@@ -13,7 +13,8 @@ ghost use Rattle.routes.specs.declared.Routes.{Routes};
 ghost use Rattle.store.specs.declared.Store.{Store};
 ghost use Rattle.rows.specs.Lent.{lent};
 ghost use Rattle.pending_table.specs.Places.View.{place_of, entry_at};
-ghost use Rattle.pending_table.specs.Places.Stays.{NamesStay};
+ghost use Rattle.pending_table.specs.Places.Parts.{seen};
+ghost use Rattle.pending_pass.specs.Places.Lent.{marking_lent};
 ghost use Rattle.sending.specs.Places.Sheet.{PacksIn};
 ghost use Rattle.event.specs.Memory.{memory, still, output};
 ghost use Rattle.coming.specs.Goes.{After, guarded};
@@ -32,16 +33,16 @@ use packets::Interest;
 use pending_handle::{
     all_nacked, asking_faces, end_requests, mark_nacked, note_requests, request_of, sent_nonce,
 };
-use pending_pass::leave_if_idle;
-use pending_table::{Handle, Pending};
+use pending_pass::{Leaving, Marking, leave_if_idle};
+use pending_table::{Handle, Shown, facts_of, find};
 use sending::{Sends, Sent, put_nack};
 use writing::Request;
 
 // The nonce of a face's request in an entry; 0 where there is none, as `nonce_at` says.
-fn nonce_of(p: &Pending, h: Handle, face: usize) -> u64
-    ensures { result ≡ nonce_at (entry_at p.now h) face }
+fn nonce_of(t: Shown, h: Handle, face: usize) -> u64
+    ensures { result ≡ nonce_at (entry_at (seen t.entry) h) face }
 {
-    match request_of(p, h, face) {
+    match request_of(t, h, face) {
         None => 0,
         Some(asked) => asked.nonce,
     }
@@ -49,7 +50,7 @@ fn nonce_of(p: &Pending, h: Handle, face: usize) -> u64
 
 // "a Nack with its own nonce" for each request of the faces of a set, by ascending face.
 fn send_nacks(
-    p: &Pending,
+    t: Shown,
     sends: &mut Sends,
     out: &mut [u8],
     h: Handle,
@@ -62,7 +63,7 @@ fn send_nacks(
 ) -> usize
     requires name_fits { length name.now ≤ most_name }
     requires buffer_fits { least_buffer ≤ length out.old }
-    ensures { PacksIn (lent sends) (lent out) result (nacks_on (entry_at p.now h) set reason name.now prefix fresh class) }
+    ensures { PacksIn (lent sends) (lent out) result (nacks_on (entry_at (seen t.entry) h) set reason name.now prefix fresh class) }
 {
     let mut sent = Sent { count: 0, at: 0 };
     for face in Walk::of(set) {
@@ -70,7 +71,7 @@ fn send_nacks(
             name,
             prefix,
             fresh,
-            nonce: nonce_of(p, h, face),
+            nonce: nonce_of(t, h, face),
         };
         sent = put_nack(sends, out, sent, face, class, reason, request);
     }
@@ -81,7 +82,7 @@ fn send_nacks(
 fn end_by_nack(
     time: u64,
     faces: Faces,
-    p: &mut Pending,
+    p: Marking,
     nonces: &mut Dead,
     sends: &mut Sends,
     out: &mut [u8],
@@ -95,20 +96,41 @@ fn end_by_nack(
 ) -> Came
     requires name_fits { length name.now ≤ most_name }
     requires buffer_fits { least_buffer ≤ length out.old }
-    ensures goes { (r : Routes) (s : Store) (e : Entry) → entry_at p.old h ≡ some e → is_known name.now prefix fresh e ≡ true
+    ensures { (r : Routes) (s : Store) (e : Entry) → entry_at (marking_lent p).entry h ≡ some e → is_known name.now prefix fresh e ≡ true
         → reason ≡ smallest_reason (held e.sent)
-        → After (λ n. ends_by_nack n.time n (place_of p.old h) e) made result
-        (memory (still time) (still faces) (still r) (lent p) (still s) (lent nonces)) (output (lent sends) (lent out) (lent rows)) }
-    ensures names { NamesStay p.old p.new }
+        → After (λ n. ends_by_nack n.time n (place_of (marking_lent p).entry h) e) made result
+        (memory (still time) (still faces) (still r) (marking_lent p) (still s) (lent nonces))
+        (output (lent sends) (lent out) (lent rows)) }
 {
-    let asking = asking_faces(p, h);
+    let Marking {
+        names,
+        heads,
+        recs,
+        numbers,
+        used,
+    } = p;
+    let t = Shown {
+        names,
+        heads,
+        recs,
+        numbers,
+        used: *used,
+    };
+    let asking = asking_faces(t, h);
     let all = faces.all_peer();
     let peers = common(asking, all);
-    let class = p.facts_of(h).class;
-    let sent = send_nacks(p, sends, out, h, peers, class, reason, name, prefix, fresh);
-    let noted = note_requests(p, h, rows, made, peers, Fate::Nacked);
-    end_requests(p, h, peers);
-    leave_if_idle(p, h, nonces, FNV_START, time);
+    let class = facts_of(t.heads, t.used, h).class;
+    let sent = send_nacks(t, sends, out, h, peers, class, reason, name, prefix, fresh);
+    let noted = note_requests(t, h, rows, made, peers, Fate::Nacked);
+    end_requests(heads, recs, *used, h, peers);
+    let left = Leaving {
+        names,
+        heads,
+        recs,
+        numbers,
+        used,
+    };
+    leave_if_idle(left, h, nonces, FNV_START, time);
     Came {
         answer: Answer::Done,
         sent,
@@ -120,7 +142,7 @@ fn end_by_nack(
 fn mark(
     time: u64,
     faces: Faces,
-    p: &mut Pending,
+    p: Marking,
     nonces: &mut Dead,
     sends: &mut Sends,
     out: &mut [u8],
@@ -135,18 +157,39 @@ fn mark(
 ) -> Came
     requires name_fits { length name.now ≤ most_name }
     requires buffer_fits { least_buffer ≤ length out.old }
-    ensures goes { (r : Routes) (s : Store) (e : Entry) → entry_at p.old h ≡ some e → is_known name.now prefix fresh e ≡ true
-        → After (λ n. nacked_entry n.time n (place_of p.old h) (with_nack face reason e)) made result
-        (memory (still time) (still faces) (still r) (lent p) (still s) (lent nonces)) (output (lent sends) (lent out) (lent rows)) }
-    ensures names { NamesStay p.old p.new }
+    ensures { (r : Routes) (s : Store) (e : Entry) → entry_at (marking_lent p).entry h ≡ some e → is_known name.now prefix fresh e ≡ true
+        → After (λ n. nacked_entry n.time n (place_of (marking_lent p).entry h) (with_nack face reason e)) made result
+        (memory (still time) (still faces) (still r) (marking_lent p) (still s) (lent nonces))
+        (output (lent sends) (lent out) (lent rows)) }
 {
-    mark_nacked(p, h, face, reason);
-    match all_nacked(p, h) {
+    let Marking {
+        names,
+        heads,
+        recs,
+        numbers,
+        used,
+    } = p;
+    mark_nacked(heads, recs, *used, h, face, reason);
+    let t = Shown {
+        names,
+        heads,
+        recs,
+        numbers,
+        used: *used,
+    };
+    match all_nacked(t, h) {
         None => quiet(Answer::Done, made),
         Some(least) => {
             let least = (least % 256) as u8;
+            let marked = Marking {
+                names,
+                heads,
+                recs,
+                numbers,
+                used,
+            };
             end_by_nack(
-                time, faces, p, nonces, sends, out, rows, made, h, least, name, prefix, fresh,
+                time, faces, marked, nonces, sends, out, rows, made, h, least, name, prefix, fresh,
             )
         }
     }
@@ -157,7 +200,7 @@ fn mark(
 fn take(
     time: u64,
     faces: Faces,
-    p: &mut Pending,
+    p: Marking,
     nonces: &mut Dead,
     sends: &mut Sends,
     out: &mut [u8],
@@ -170,12 +213,12 @@ fn take(
 ) -> Came
     requires name_fits { length name.now ≤ most_name }
     requires buffer_fits { least_buffer ≤ length out.old }
-    ensures goes { (r : Routes) (s : Store) (a : Ask) → a.name ≡ name.now
+    ensures { (r : Routes) (s : Store) (a : Ask) → a.name ≡ name.now
         → a.can_be_prefix ≡ i.can_be_prefix → a.must_be_fresh ≡ i.must_be_fresh
         → a.nonce ≡ i.nonce
         → After (λ n. nack_step n.time n face reason a) made result
-        (memory (still time) (still faces) (still r) (lent p) (still s) (lent nonces)) (output (lent sends) (lent out) (lent rows)) }
-    ensures names { NamesStay p.old p.new }
+        (memory (still time) (still faces) (still r) (marking_lent p) (still s) (lent nonces))
+        (output (lent sends) (lent out) (lent rows)) }
 {
     if is_out_of_scope(faces, face, name) {
         return quiet(Answer::Scope, made);
@@ -185,20 +228,43 @@ fn take(
     }
     let prefix = i.can_be_prefix;
     let fresh = i.must_be_fresh;
-    let h = p.find(name, prefix, fresh);
-    if !sent_nonce(p, h, face, i.nonce) {
-        return quiet(Answer::StaleNack, made);
+    let Marking {
+        names,
+        heads,
+        recs,
+        numbers,
+        used,
+    } = p;
+    let t = Shown {
+        names,
+        heads,
+        recs,
+        numbers,
+        used: *used,
+    };
+    let h = find(names, t.heads, numbers, t.used, name, prefix, fresh);
+    if sent_nonce(t, h, face, i.nonce) {
+        let found = Marking {
+            names,
+            heads,
+            recs,
+            numbers,
+            used,
+        };
+        mark(
+            time, faces, found, nonces, sends, out, rows, made, h, face, reason, name, prefix,
+            fresh,
+        )
+    } else {
+        quiet(Answer::StaleNack, made)
     }
-    mark(
-        time, faces, p, nonces, sends, out, rows, made, h, face, reason, name, prefix, fresh,
-    )
 }
 
 // A Nack that came in on a face, past ageing.
 pub fn nack(
     time: u64,
     faces: Faces,
-    p: &mut Pending,
+    p: Marking,
     nonces: &mut Dead,
     sends: &mut Sends,
     out: &mut [u8],
@@ -209,10 +275,10 @@ pub fn nack(
     bare: &[u8],
     i: Interest,
 ) -> Came
-    ensures goes { (r : Routes) (s : Store) → After (λ n. guarded (length out.old) (length bare.now) (length (name_of bare.now)) n
+    ensures { (r : Routes) (s : Store) → After (λ n. guarded (length out.old) (length bare.now) (length (name_of bare.now)) n
         (nack_step n.time n face reason (ask_found bare.now i))) made result
-        (memory (still time) (still faces) (still r) (lent p) (still s) (lent nonces)) (output (lent sends) (lent out) (lent rows)) }
-    ensures names { NamesStay p.old p.new }
+        (memory (still time) (still faces) (still r) (marking_lent p) (still s) (lent nonces))
+        (output (lent sends) (lent out) (lent rows)) }
 {
     let name = find_name(bare);
     if let Err(answer) = guard(time, out.len(), bare.len(), name.len()) {

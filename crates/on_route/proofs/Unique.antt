@@ -9,6 +9,8 @@ use denote.Triple.Both.{Both}
 use denote.Triple.Clauses.{AtExit}
 use borrow.Fn.Kinds.{Dens, ended_of, res_t}
 use Rattle.rows.specs.Lent.{Lent}
+use Rattle.pending_pass.specs.Places.Lent.{ageing_lent}
+use Rattle.routes.specs.Places.Lent.{setting_lent, hopping_lent, dropping_lent}
 use Rattle.rules.specs.Node as rules
 use Rattle.event.specs.declared.Memory.{Memory}
 use Rattle.faces.specs.declared.Faces.{Faces}
@@ -37,7 +39,8 @@ module _ (κs : Lfts 8) where
   abbrev pub drop_route_memory : Faces → Store → Dens κs drop-route-kinds.ps
       → AtExit (ended_of 8 drop-route-kinds.ps drop-route-kinds.r) κs → Both Memory Memory
   drop_route_memory f d a s =
-      memory (lent a.0 s.0) (still f) (lent a.1.0 s.1.0) (lent a.1.1.0 s.1.1.0) (still d) (lent a.1.1.1.0 s.1.1.1.0)
+      memory (lent a.0 s.0) (still f) (lent a.1.0 s.1.0)
+      (ageing_lent (record { entry = a.1.1.0; exit = s.1.1.0 })) (still d) (lent a.1.1.1.0 s.1.1.1.0)
 
   -- its output at entry and at exit
   abbrev pub drop_route_output : Dens κs drop-route-kinds.ps
@@ -61,7 +64,7 @@ module _ (κs : Lfts 8) where
       (drop_route_output a s).exit (drop_route_output b t).exit
   drop_route_same f g d e a b x y s t et ew n o v w =
       stepped_same x y (drop_route_memory f d a s) (drop_route_memory g e b t) (drop_route_output a s) (drop_route_output b t) n o
-      _ _ (drop_route_what a) (drop_route_what b) et ew (v.0 f d) (w.0 g e)
+      _ _ (drop_route_what a) (drop_route_what b) et ew (v f d) (w g e)
 
   -- two outcomes of dropping a route
   pub drop_route_one : (f : Faces) (d : Store) (a : Dens κs drop-route-kinds.ps) (x y : (res_t drop-route-kinds.r κs).Denot)
@@ -76,7 +79,8 @@ module _ (κs : Lfts 8) where
   abbrev pub set_route_memory : Faces → Store → Dens κs set-route-kinds.ps
       → AtExit (ended_of 8 set-route-kinds.ps set-route-kinds.r) κs → Both Memory Memory
   set_route_memory f d a s =
-      memory (lent a.0 s.0) (still f) (lent a.1.0 s.1.0) (lent a.1.1.0 s.1.1.0) (still d) (lent a.1.1.1.0 s.1.1.1.0)
+      memory (lent a.0 s.0) (still f) (setting_lent (record { entry = a.1.0; exit = s.1.0 }))
+      (ageing_lent (record { entry = a.1.1.0; exit = s.1.1.0 })) (still d) (lent a.1.1.1.0 s.1.1.1.0)
 
   -- its output at entry and at exit
   abbrev pub set_route_output : Dens κs set-route-kinds.ps
@@ -100,7 +104,7 @@ module _ (κs : Lfts 8) where
       (set_route_output a s).exit (set_route_output b t).exit
   set_route_same f g d e a b x y s t et ew n o v w =
       stepped_same x y (set_route_memory f d a s) (set_route_memory g e b t) (set_route_output a s) (set_route_output b t) n o
-      _ _ (set_route_what a) (set_route_what b) et ew (v.0 f d) (w.0 g e)
+      _ _ (set_route_what a) (set_route_what b) et ew (v f d) (w g e)
 
   -- two outcomes of setting a route
   pub set_route_one : (f : Faces) (d : Store) (a : Dens κs set-route-kinds.ps) (x y : (res_t set-route-kinds.r κs).Denot)
@@ -115,7 +119,8 @@ module _ (κs : Lfts 8) where
   abbrev pub add_hop_memory : Store → Dens κs add-hop-kinds.ps
       → AtExit (ended_of 8 add-hop-kinds.ps add-hop-kinds.r) κs → Both Memory Memory
   add_hop_memory d a s =
-      memory (lent a.0 s.0) (still a.1.0) (lent a.1.1.0 s.1.1.0) (lent a.1.1.1.0 s.1.1.1.0) (still d) (lent a.1.1.1.1.0 s.1.1.1.1.0)
+      memory (lent a.0 s.0) (still a.1.0) (hopping_lent (record { entry = a.1.1.0; exit = s.1.1.0 }))
+      (ageing_lent (record { entry = a.1.1.1.0; exit = s.1.1.1.0 })) (still d) (lent a.1.1.1.1.0 s.1.1.1.1.0)
 
   -- its output at entry and at exit
   abbrev pub add_hop_output : Dens κs add-hop-kinds.ps
@@ -139,7 +144,7 @@ module _ (κs : Lfts 8) where
       (add_hop_output a s).exit (add_hop_output b t).exit
   add_hop_same d e a b x y s t et ew n o v w =
       stepped_same x y (add_hop_memory d a s) (add_hop_memory e b t) (add_hop_output a s) (add_hop_output b t) n o
-      _ _ (add_hop_what a) (add_hop_what b) et ew (v.0 d) (w.0 e)
+      _ _ (add_hop_what a) (add_hop_what b) et ew (v d) (w e)
 
   -- two outcomes of adding a hop
   pub add_hop_one : (d : Store) (a : Dens κs add-hop-kinds.ps) (x y : (res_t add-hop-kinds.r κs).Denot)
@@ -154,7 +159,8 @@ module _ (κs : Lfts 8) where
   abbrev pub drop_hop_memory : Store → Dens κs drop-hop-kinds.ps
       → AtExit (ended_of 8 drop-hop-kinds.ps drop-hop-kinds.r) κs → Both Memory Memory
   drop_hop_memory d a s =
-      memory (lent a.0 s.0) (still a.1.0) (lent a.1.1.0 s.1.1.0) (lent a.1.1.1.0 s.1.1.1.0) (still d) (lent a.1.1.1.1.0 s.1.1.1.1.0)
+      memory (lent a.0 s.0) (still a.1.0) (dropping_lent (record { entry = a.1.1.0; exit = s.1.1.0 }))
+      (ageing_lent (record { entry = a.1.1.1.0; exit = s.1.1.1.0 })) (still d) (lent a.1.1.1.1.0 s.1.1.1.1.0)
 
   -- its output at entry and at exit
   abbrev pub drop_hop_output : Dens κs drop-hop-kinds.ps
@@ -178,7 +184,7 @@ module _ (κs : Lfts 8) where
       (drop_hop_output a s).exit (drop_hop_output b t).exit
   drop_hop_same d e a b x y s t et ew n o v w =
       stepped_same x y (drop_hop_memory d a s) (drop_hop_memory e b t) (drop_hop_output a s) (drop_hop_output b t) n o
-      _ _ (drop_hop_what a) (drop_hop_what b) et ew (v.0 d) (w.0 e)
+      _ _ (drop_hop_what a) (drop_hop_what b) et ew (v d) (w e)
 
   -- two outcomes of dropping a hop
   pub drop_hop_one : (d : Store) (a : Dens κs drop-hop-kinds.ps) (x y : (res_t drop-hop-kinds.r κs).Denot)

@@ -2,28 +2,26 @@
 #![tactic(auto)]
 
 ghost use Rattle.std.specs.Prelude.{◌≡◌};
-ghost use Rattle.sizes.specs.Sizes.{most_faces};
 ghost use Rattle.records.specs.Class.{class_of, is_class};
 ghost use Rattle.faces.specs.declared.Faces.{Faces};
 ghost use Rattle.store.specs.declared.Store.{Store};
 ghost use Rattle.routes.specs.Places.View.{view};
+ghost use Rattle.routes.specs.Places.Lent.{setting_lent, hopping_lent, dropping_lent};
 ghost use Rattle.rules.specs.Node as rules;
-ghost use Rattle.rules.specs.Step.{bad_face};
 ghost use Rattle.rows.specs.Lent.{lent, shown};
-ghost use Rattle.event.specs.Memory.{memory, still, output, node_of};
+ghost use Rattle.event.specs.Memory.{memory, still, output};
 ghost use Rattle.event.specs.Comes.{Stepped};
-ghost use Rattle.pending_table.specs.Places.Stays.{RecordsStay};
-ghost use Rattle.routes.specs.Places.Stays.{PrefixesStay, CostsStay};
+ghost use Rattle.pending_pass.specs.Places.Lent.{ageing_lent};
 ghost use Rattle.event.specs.Places.Begins.{allowed, answer_of};
-ghost use Rattle.on_route.specs.Turns.{RoutesBy, Turns, Keeps, prefix_says};
+ghost use Rattle.on_route.specs.Turns.{RoutesBy, prefix_says};
 
 use answers::Answer;
 use dead::Dead;
 use event::{Came, begins, is_not_open, quiet};
 use faces::Faces;
 use happenings::Rows;
-use pending_table::Pending;
-use routes::Routes;
+use pending_pass::Ageing;
+use routes::{Dropping, Hopping, Routes, Setting, find, has_hop};
 use sending::Sends;
 use sizes::{COMPONENTS, MOST_COST, NAME};
 
@@ -44,44 +42,12 @@ fn check(prefix: &[u8]) -> Result<(), Answer>
     Ok(())
 }
 
-// A command that changes the routes alone, as a whole event, where `bad` says that its face is refused: refused where it begins, or what
-// `turn` makes of the routes of the aged node, and answers.
-fn turning<F: FnOnce(&mut Routes) -> Result<(), Answer>>(
-    last: &mut u64,
-    known: &mut Routes,
-    p: &mut Pending,
-    nonces: &mut Dead,
-    sends: &Sends,
-    out: &[u8],
-    rows: &mut Rows,
-    time: u64,
-    bad: bool,
-    turn: F,
-) -> Came
-    requires { F.IsAlwaysCallable turn }
-    ensures stepped { (f : Faces) (s : Store) (w : rules.What)
-        → bad ≡ bad_face most_faces (node_of (memory (lent last) (still f) (lent known) (lent p) (still s) (lent nonces)).entry) w
-        → Turns (F.post turn) w → Stepped time w result
-        (memory (lent last) (still f) (lent known) (lent p) (still s) (lent nonces)) (output (shown sends) (shown out) (lent rows)) }
-    ensures records { RecordsStay p.old p.new }
-    ensures prefixes { Keeps (F.post turn) PrefixesStay → PrefixesStay known.old known.new }
-    ensures costs { Keeps (F.post turn) CostsStay → CostsStay known.old known.new }
-{
-    match begins(last, p, nonces, sends, out, rows, time, bad) {
-        Err(answer) => quiet(answer, 0),
-        Ok(made) => {
-            let then = turn(known);
-            quiet(then.err().unwrap_or(Answer::Done), made)
-        }
-    }
-}
-
 // A route is dropped.
 fn dropping(known: &mut Routes, prefix: &[u8]) -> Result<(), Answer>
     ensures { RoutesBy (rules.drop_route prefix.now) (view known.old) (answer_of result) (view known.new) }
 {
     check(prefix)?;
-    let route = known.find(prefix).ok_or(Answer::NoRoute)?;
+    let route = find(&known.prefixes, &known.rows, known.count, prefix).ok_or(Answer::NoRoute)?;
     known.remove(route);
     Ok(())
 }
@@ -90,7 +56,7 @@ fn dropping(known: &mut Routes, prefix: &[u8]) -> Result<(), Answer>
 pub fn drop_route(
     last: &mut u64,
     known: &mut Routes,
-    p: &mut Pending,
+    p: Ageing,
     nonces: &mut Dead,
     sends: &Sends,
     out: &[u8],
@@ -98,22 +64,16 @@ pub fn drop_route(
     time: u64,
     prefix: &[u8],
 ) -> Came
-    ensures stepped { (f : Faces) (s : Store) → Stepped time (rules.drop_route prefix.now) result
-        (memory (lent last) (still f) (lent known) (lent p) (still s) (lent nonces)) (output (shown sends) (shown out) (lent rows)) }
-    ensures records { RecordsStay p.old p.new }
+    ensures { (f : Faces) (s : Store) → Stepped time (rules.drop_route prefix.now) result
+        (memory (lent last) (still f) (lent known) (ageing_lent p) (still s) (lent nonces)) (output (shown sends) (shown out) (lent rows)) }
 {
-    turning(
-        last,
-        known,
-        p,
-        nonces,
-        sends,
-        out,
-        rows,
-        time,
-        false,
-        |known| { dropping(known, prefix) },
-    )
+    match begins(last, p, nonces, sends, out, rows, time, false) {
+        Err(answer) => quiet(answer, 0),
+        Ok(made) => {
+            let then = dropping(known, prefix);
+            quiet(then.err().unwrap_or(Answer::Done), made)
+        }
+    }
 }
 
 // Whether a word is a class: "1 alarm, 2 monitoring, 3 bulk".
@@ -125,15 +85,21 @@ fn is_class(class: u64) -> bool
 }
 
 // A route is set: 15, then a known prefix, then 16.
-fn setting(known: &mut Routes, class: u64, prefix: &[u8]) -> Result<(), Answer>
-    ensures turned { RoutesBy (rules.set_route class prefix.now) (view known.old) (answer_of result) (view known.new) }
-    ensures costs { CostsStay known.old known.new }
+fn setting(known: Setting, class: u64, prefix: &[u8]) -> Result<(), Answer>
+    ensures { RoutesBy (rules.set_route class prefix.now)
+        (view (setting_lent known).entry) (answer_of result) (view (setting_lent known).exit) }
 {
     check(prefix)?;
     if !is_class(class) {
         return Err(Answer::BadSetting);
     }
-    if known.set(prefix, class) {
+    let Setting {
+        prefixes,
+        rows,
+        costs: _,
+        count,
+    } = known;
+    if routes::set(prefixes, rows, count, prefix, class) {
         Ok(())
     } else {
         Err(Answer::TableFull)
@@ -143,8 +109,8 @@ fn setting(known: &mut Routes, class: u64, prefix: &[u8]) -> Result<(), Answer>
 // A route is set.
 pub fn set_route(
     last: &mut u64,
-    known: &mut Routes,
-    p: &mut Pending,
+    known: Setting,
+    p: Ageing,
     nonces: &mut Dead,
     sends: &Sends,
     out: &[u8],
@@ -153,36 +119,37 @@ pub fn set_route(
     class: u64,
     prefix: &[u8],
 ) -> Came
-    ensures stepped { (f : Faces) (s : Store) → Stepped time (rules.set_route class prefix.now) result
-        (memory (lent last) (still f) (lent known) (lent p) (still s) (lent nonces)) (output (shown sends) (shown out) (lent rows)) }
-    ensures records { RecordsStay p.old p.new }
-    ensures costs { CostsStay known.old known.new }
+    ensures { (f : Faces) (s : Store) → Stepped time (rules.set_route class prefix.now) result
+        (memory (lent last) (still f) (setting_lent known) (ageing_lent p) (still s) (lent nonces))
+        (output (shown sends) (shown out) (lent rows)) }
 {
-    turning(
-        last,
-        known,
-        p,
-        nonces,
-        sends,
-        out,
-        rows,
-        time,
-        false,
-        |known| { setting(known, class, prefix) },
-    )
+    match begins(last, p, nonces, sends, out, rows, time, false) {
+        Err(answer) => quiet(answer, 0),
+        Ok(made) => {
+            let then = setting(known, class, prefix);
+            quiet(then.err().unwrap_or(Answer::Done), made)
+        }
+    }
 }
 
 // A hop is added: "Adding a known hop changes its cost."
-fn adding_hop(known: &mut Routes, face: usize, cost: u64, prefix: &[u8]) -> Result<(), Answer>
-    ensures turned { RoutesBy (rules.add_hop face cost prefix.now) (view known.old) (answer_of result) (view known.new) }
-    ensures prefixes { PrefixesStay known.old known.new }
+fn adding_hop(known: Hopping, face: usize, cost: u64, prefix: &[u8]) -> Result<(), Answer>
+    ensures { RoutesBy (rules.add_hop face cost prefix.now)
+        (view (hopping_lent known).entry) (answer_of result) (view (hopping_lent known).exit) }
 {
     check(prefix)?;
     if MOST_COST < cost {
         return Err(Answer::BadSetting);
     }
-    let route = known.find(prefix).ok_or(Answer::NoRoute)?;
-    known.add_hop(route, face, cost);
+    let count = known.count;
+    let route = find(known.prefixes, known.rows, count, prefix).ok_or(Answer::NoRoute)?;
+    let Hopping {
+        prefixes: _,
+        rows,
+        costs,
+        count: _,
+    } = known;
+    routes::add_hop(rows, costs, count, route, face, cost);
     Ok(())
 }
 
@@ -190,8 +157,8 @@ fn adding_hop(known: &mut Routes, face: usize, cost: u64, prefix: &[u8]) -> Resu
 pub fn add_hop(
     last: &mut u64,
     faces: Faces,
-    known: &mut Routes,
-    p: &mut Pending,
+    known: Hopping,
+    p: Ageing,
     nonces: &mut Dead,
     sends: &Sends,
     out: &[u8],
@@ -201,38 +168,38 @@ pub fn add_hop(
     cost: u64,
     prefix: &[u8],
 ) -> Came
-    ensures stepped { (s : Store) → Stepped time (rules.add_hop face cost prefix.now) result
-        (memory (lent last) (still faces) (lent known) (lent p) (still s) (lent nonces)) (output (shown sends) (shown out) (lent rows)) }
-    ensures records { RecordsStay p.old p.new }
-    ensures prefixes { PrefixesStay known.old known.new }
+    ensures { (s : Store) → Stepped time (rules.add_hop face cost prefix.now) result
+        (memory (lent last) (still faces) (hopping_lent known) (ageing_lent p) (still s) (lent nonces))
+        (output (shown sends) (shown out) (lent rows)) }
 {
     let bad = is_not_open(faces, face);
-    turning(
-        last,
-        known,
-        p,
-        nonces,
-        sends,
-        out,
-        rows,
-        time,
-        bad,
-        |known| { adding_hop(known, face, cost, prefix) },
-    )
+    match begins(last, p, nonces, sends, out, rows, time, bad) {
+        Err(answer) => quiet(answer, 0),
+        Ok(made) => {
+            let then = adding_hop(known, face, cost, prefix);
+            quiet(then.err().unwrap_or(Answer::Done), made)
+        }
+    }
 }
 
 // A hop is dropped: "A hop or drop on something absent is 10."
-fn dropping_hop(known: &mut Routes, face: usize, prefix: &[u8]) -> Result<(), Answer>
-    ensures turned { RoutesBy (rules.drop_hop face prefix.now) (view known.old) (answer_of result) (view known.new) }
-    ensures prefixes { PrefixesStay known.old known.new }
-    ensures costs { CostsStay known.old known.new }
+fn dropping_hop(known: Dropping, face: usize, prefix: &[u8]) -> Result<(), Answer>
+    ensures { RoutesBy (rules.drop_hop face prefix.now)
+        (view (dropping_lent known).entry) (answer_of result) (view (dropping_lent known).exit) }
 {
     check(prefix)?;
-    let route = known.find(prefix).ok_or(Answer::NoRoute)?;
-    if !known.has_hop(route, face) {
+    let count = known.count;
+    let route = find(known.prefixes, known.rows, count, prefix).ok_or(Answer::NoRoute)?;
+    if !has_hop(known.rows, count, route, face) {
         return Err(Answer::NoRoute);
     }
-    known.drop_hop(route, face);
+    let Dropping {
+        prefixes: _,
+        rows,
+        costs: _,
+        count: _,
+    } = known;
+    routes::drop_hop(rows, count, route, face);
     Ok(())
 }
 
@@ -240,8 +207,8 @@ fn dropping_hop(known: &mut Routes, face: usize, prefix: &[u8]) -> Result<(), An
 pub fn drop_hop(
     last: &mut u64,
     faces: Faces,
-    known: &mut Routes,
-    p: &mut Pending,
+    known: Dropping,
+    p: Ageing,
     nonces: &mut Dead,
     sends: &Sends,
     out: &[u8],
@@ -250,23 +217,16 @@ pub fn drop_hop(
     face: usize,
     prefix: &[u8],
 ) -> Came
-    ensures stepped { (s : Store) → Stepped time (rules.drop_hop face prefix.now) result
-        (memory (lent last) (still faces) (lent known) (lent p) (still s) (lent nonces)) (output (shown sends) (shown out) (lent rows)) }
-    ensures records { RecordsStay p.old p.new }
-    ensures prefixes { PrefixesStay known.old known.new }
-    ensures costs { CostsStay known.old known.new }
+    ensures { (s : Store) → Stepped time (rules.drop_hop face prefix.now) result
+        (memory (lent last) (still faces) (dropping_lent known) (ageing_lent p) (still s) (lent nonces))
+        (output (shown sends) (shown out) (lent rows)) }
 {
     let bad = is_not_open(faces, face);
-    turning(
-        last,
-        known,
-        p,
-        nonces,
-        sends,
-        out,
-        rows,
-        time,
-        bad,
-        |known| { dropping_hop(known, face, prefix) },
-    )
+    match begins(last, p, nonces, sends, out, rows, time, bad) {
+        Err(answer) => quiet(answer, 0),
+        Ok(made) => {
+            let then = dropping_hop(known, face, prefix);
+            quiet(then.err().unwrap_or(Answer::Done), made)
+        }
+    }
 }

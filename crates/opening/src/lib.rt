@@ -96,9 +96,18 @@ fn open(
         (beside time f r (lent p) s d) (output (lent sends) (lent out) (lent rows)) }
 {
     let expiry = expiry_of(time, i.lifetime);
-    let h = p.open(name, i.can_be_prefix, i.must_be_fresh, class);
-    pending_handle::renew(p, h, face, i.nonce, expiry);
-    pending_handle::send(p, h, to, i.nonce, time);
+    let h = pending_table::open(
+        &mut p.names,
+        &mut p.heads,
+        &mut p.numbers,
+        &mut p.used,
+        name,
+        i.can_be_prefix,
+        i.must_be_fresh,
+        class,
+    );
+    pending_handle::renew(&mut p.heads, &mut p.recs, p.used, h, face, i.nonce, expiry);
+    pending_handle::send(&mut p.heads, &mut p.recs, p.used, h, to, i.nonce, time);
     let noted = note_fate(rows, made, face, class, Fate::Opened, i.nonce, expiry);
     Came {
         answer: Answer::Done,

@@ -1,6 +1,8 @@
 -- One outcome for each input of each public function: any two that its contract admits are equal, or have the same entries, lines or rows
 -- at exit.
 -- Assumes nothing.
+use Prim.Native.Nat.{ℕ}
+use mathlib.Core.List.{List}
 use mathlib.Core.Path.{◌≡◌, sym, ◌∙◌}
 use contract.Lifetimes.{Lfts}
 use denote.Triple.Clauses.{AtExit}
@@ -11,8 +13,8 @@ use Rattle.happenings.specs.Noted.{most_rows}
 use Rattle.happenings.specs.Laws.Noted.{notes_one}
 use Rattle.pending_entry.specs.Laws.Change.{asked_same}
 use Rattle.pending_records.specs.Laws.Nacks.{nacks_same}
-use Rattle.pending_table.specs.Places.View.{view, marks_of, Stands}
-use Rattle.pending_table.specs.Laws.Same.{stands_one}
+use Rattle.pending_table.specs.Places.View.{view, marks_of}
+use Rattle.pending_table.specs.Places.Parts.{table, seen}
 use Rattle.pending_handle.proofs.renew.Kinds as renew-kinds
 use Rattle.pending_handle.proofs.renew.Reads as renew-reads
 use Rattle.pending_handle.proofs.end_requests.Kinds as end-requests-kinds
@@ -63,46 +65,46 @@ use Rattle.pending_handle.proofs.overdue_entries.Kinds as overdue-entries-kinds
 use Rattle.pending_handle.proofs.overdue_entries.Reads as overdue-entries-reads
 
 -- two outcomes have the same entries: "open this face's request, or renew it with the new nonce and expiry"
-pub renew_one : (κs : Lfts 1) (a : Dens κs renew-kinds.ps) (x y : (res_t renew-kinds.r κs).Denot)
-    (s t : AtExit (ended_of 1 renew-kinds.ps renew-kinds.r) κs)
+pub renew_one : (κs : Lfts 2) (a : Dens κs renew-kinds.ps) (x y : (res_t renew-kinds.r κs).Denot)
+    (s t : AtExit (ended_of 2 renew-kinds.ps renew-kinds.r) κs) (n : List (List ℕ)) (k : List ℕ)
     → renew-reads.Post κs a x s → renew-reads.Post κs a y t
-    → (view s.0.now ≡ view t.0.now) × Stands s.0.now t.0.now
-renew_one κs a x y s t p q = (p.0 ∙ sym q.0, stands_one p.1.0 q.1.0)
+    → view (table n s.0.now s.1.0.now k a.1.1.0) ≡ view (table n t.0.now t.1.0.now k a.1.1.0)
+renew_one κs a x y s t n k p q = p n k ∙ sym (q n k)
 
 -- two outcomes have the same entries: Ends the requests of the faces of a set, all at once
-pub end_requests_one : (κs : Lfts 1) (a : Dens κs end-requests-kinds.ps) (x y : (res_t end-requests-kinds.r κs).Denot)
-    (s t : AtExit (ended_of 1 end-requests-kinds.ps end-requests-kinds.r) κs)
+pub end_requests_one : (κs : Lfts 2) (a : Dens κs end-requests-kinds.ps) (x y : (res_t end-requests-kinds.r κs).Denot)
+    (s t : AtExit (ended_of 2 end-requests-kinds.ps end-requests-kinds.r) κs) (n : List (List ℕ)) (k : List ℕ)
     → end-requests-reads.Post κs a x s → end-requests-reads.Post κs a y t
-    → (view s.0.now ≡ view t.0.now) × Stands s.0.now t.0.now
-end_requests_one κs a x y s t p q = (p.0 ∙ sym q.0, stands_one p.1.0 q.1.0)
+    → view (table n s.0.now a.1.0.now k a.1.1.0) ≡ view (table n t.0.now a.1.0.now k a.1.1.0)
+end_requests_one κs a x y s t n k p q = p n k ∙ sym (q n k)
 
 -- two outcomes have the same entries: "A send sets the out-record anew, its Nack reason cleared."
-pub send_one : (κs : Lfts 1) (a : Dens κs send-kinds.ps) (x y : (res_t send-kinds.r κs).Denot)
-    (s t : AtExit (ended_of 1 send-kinds.ps send-kinds.r) κs)
+pub send_one : (κs : Lfts 2) (a : Dens κs send-kinds.ps) (x y : (res_t send-kinds.r κs).Denot)
+    (s t : AtExit (ended_of 2 send-kinds.ps send-kinds.r) κs) (n : List (List ℕ)) (k : List ℕ)
     → send-reads.Post κs a x s → send-reads.Post κs a y t
-    → (view s.0.now ≡ view t.0.now) × Stands s.0.now t.0.now
-send_one κs a x y s t p q = (p.0 ∙ sym q.0, stands_one p.1.0 q.1.0)
+    → view (table n s.0.now s.1.0.now k a.1.1.0) ≡ view (table n t.0.now t.1.0.now k a.1.1.0)
+send_one κs a x y s t n k p q = p n k ∙ sym (q n k)
 
 -- two outcomes have the same entries: Takes a face's out-record out
-pub end_sent_one : (κs : Lfts 1) (a : Dens κs end-sent-kinds.ps) (x y : (res_t end-sent-kinds.r κs).Denot)
-    (s t : AtExit (ended_of 1 end-sent-kinds.ps end-sent-kinds.r) κs)
+pub end_sent_one : (κs : Lfts 2) (a : Dens κs end-sent-kinds.ps) (x y : (res_t end-sent-kinds.r κs).Denot)
+    (s t : AtExit (ended_of 2 end-sent-kinds.ps end-sent-kinds.r) κs) (n : List (List ℕ)) (k : List ℕ)
     → end-sent-reads.Post κs a x s → end-sent-reads.Post κs a y t
-    → (view s.0.now ≡ view t.0.now) × Stands s.0.now t.0.now
-end_sent_one κs a x y s t p q = (p.0 ∙ sym q.0, stands_one p.1.0 q.1.0)
+    → view (table n s.0.now a.1.0.now k a.1.1.0) ≡ view (table n t.0.now a.1.0.now k a.1.1.0)
+end_sent_one κs a x y s t n k p q = p n k ∙ sym (q n k)
 
 -- two outcomes have the same entries: "Reasons other than 50, 100, 150 become 0, still Nacked.": marks a face's out-record
-pub mark_nacked_one : (κs : Lfts 1) (a : Dens κs mark-nacked-kinds.ps) (x y : (res_t mark-nacked-kinds.r κs).Denot)
-    (s t : AtExit (ended_of 1 mark-nacked-kinds.ps mark-nacked-kinds.r) κs)
+pub mark_nacked_one : (κs : Lfts 2) (a : Dens κs mark-nacked-kinds.ps) (x y : (res_t mark-nacked-kinds.r κs).Denot)
+    (s t : AtExit (ended_of 2 mark-nacked-kinds.ps mark-nacked-kinds.r) κs) (n : List (List ℕ)) (k : List ℕ)
     → mark-nacked-reads.Post κs a x s → mark-nacked-reads.Post κs a y t
-    → (view s.0.now ≡ view t.0.now) × Stands s.0.now t.0.now
-mark_nacked_one κs a x y s t p q = (p.0 ∙ sym q.0, stands_one p.1.0 q.1.0)
+    → view (table n a.0.now s.1.0.now k a.1.1.0) ≡ view (table n a.0.now t.1.0.now k a.1.1.0)
+mark_nacked_one κs a x y s t n k p q = p n k ∙ sym (q n k)
 
 -- two outcomes are the same: Ends the requests that are over; the set of their faces
-pub age_one : (κs : Lfts 1) (a : Dens κs age-kinds.ps) (x y : (res_t age-kinds.r κs).Denot)
-    (s t : AtExit (ended_of 1 age-kinds.ps age-kinds.r) κs)
-    → age-reads.Post κs a x s → age-reads.Post κs a y t → (x ≡ y)
-    × (view s.0.now ≡ view t.0.now) × Stands s.0.now t.0.now
-age_one κs a x y s t p q = (p.1.0 ∙ sym q.1.0, p.0 ∙ sym q.0, stands_one p.1.1.0 q.1.1.0)
+pub age_one : (κs : Lfts 2) (a : Dens κs age-kinds.ps) (x y : (res_t age-kinds.r κs).Denot)
+    (s t : AtExit (ended_of 2 age-kinds.ps age-kinds.r) κs) (n : List (List ℕ)) (k : List ℕ)
+    → age-reads.Post κs a x s → age-reads.Post κs a y t
+    → (x ≡ y) × (view (table n s.0.now a.1.0.now k a.1.1.0) ≡ view (table n t.0.now a.1.0.now k a.1.1.0))
+age_one κs a x y s t n k p q = (p.1 n k ∙ sym (q.1 n k), p.0 n k ∙ sym (q.0 n k))
 
 -- two outcomes are the same: The faces with a request
 pub asking_faces_one : (κs : Lfts 1) (a : Dens κs asking-faces-kinds.ps) (x y : (res_t asking-faces-kinds.r κs).Denot)
@@ -213,5 +215,5 @@ note_face_one κs a x y s t p q = notes_one most_rows (p 0) (q 0)
 -- two choices of the entries that ageing concerns have the same marks
 pub overdue_entries_one : (κs : Lfts 1) (a : Dens κs overdue-entries-kinds.ps) (x y : (res_t overdue-entries-kinds.r κs).Denot)
     (s t : AtExit (ended_of 1 overdue-entries-kinds.ps overdue-entries-kinds.r) κs)
-    → overdue-entries-reads.Post κs a x s → overdue-entries-reads.Post κs a y t → marks_of a.0.now x ≡ marks_of a.0.now y
+    → overdue-entries-reads.Post κs a x s → overdue-entries-reads.Post κs a y t → marks_of (seen a.0) x ≡ marks_of (seen a.0) y
 overdue_entries_one κs a x y s t p q = p ∙ sym q

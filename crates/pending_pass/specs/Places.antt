@@ -2,3 +2,4 @@ pub mod Pass
 pub mod Works
 pub mod Lowering
 pub mod Turns
+pub mod Lent

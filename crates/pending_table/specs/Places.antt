@@ -1,3 +1,4 @@
 pub mod View
 pub mod Room
 pub mod Stays
+pub mod Parts

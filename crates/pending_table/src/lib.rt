@@ -1,7 +1,8 @@
 // The pending table: entries in the order of opening, in rows that stay in place. An entry is told by a handle.
 //
-// Nobody above but `pending_handle` reads a field of `Pending`, `Handle` or `Chosen`: contracts speak of the entries, of a handle's place
-// among them and of marks.
+// Each function is lent the parts of the table that it uses, by `&mut` only what it changes; its contract holds whatever the others are.
+// Nobody above `pending_pass` reads a row, a `Handle` or a `Chosen`: the parts are only handed on, and contracts speak of the entries, of a
+// handle's place among them and of marks.
 #![tactic(auto)]
 
 ghost use Rattle.std.specs.Prelude.{◌≡◌, true, false, List, [], ◌∷◌, ◌++◌, map, ℕ, ◌+◌, ◌<◌, ◌≤◌};
@@ -17,6 +18,8 @@ ghost use Rattle.pending_entry.specs.Operations.{bare_entry};
 ghost use Rattle.pending_table.specs.Places.View.{view, state, row_held, place_of, entry_at, handle_of, marks_of};
 ghost use Rattle.pending_table.specs.Places.Room.{counting, all_of, room_of};
 ghost use Rattle.pending_table.specs.Places.Stays.{RowsStay};
+ghost use Rattle.pending_table.specs.Places.Parts.{table};
+ghost use Rattle.pending_table.specs.declared.Pending.{Pending};
 ghost use Rattle.pending_table.specs.Operations.{Finds, Opens, TakesOut, nothing, facts_of, uses_of};
 
 use names::{is_prefix, same};
@@ -52,6 +55,16 @@ pub struct Pending {
     pub heads: Heads,
     pub recs: Records,
     pub numbers: Numbers,
+    pub used: u64,
+}
+
+// A table that is lent to be read, in parts.
+#[derive(Clone, Copy)]
+pub struct Shown<'a> {
+    pub names: &'a Names,
+    pub heads: &'a Heads,
+    pub recs: &'a Records,
+    pub numbers: &'a Numbers,
     pub used: u64,
 }
 
@@ -162,131 +175,6 @@ impl Pending {
         self.used = 0;
     }
 
-    // How many entries there are.
-    pub fn size(&self) -> usize
-        ensures { result ≡ length (view self.now) }
-    {
-        self.used.count_ones() as usize
-    }
-
-    // "An entry is known by name and both flags": its handle, or that of no entry. ENTRIES is the best of no rows, as `better_row` has it.
-    pub fn find(&self, name: &[u8], prefix: bool, fresh: bool) -> Handle
-        ensures { Finds (place_of self.now) (handle_of self.now) (index_of (is_known name.now prefix fresh) (view self.now)) result }
-    {
-        let mut best = ENTRIES;
-        for row in RowWalk::of(self.used) {
-            if is_known(&self.names[row], &self.heads[row], name, prefix, fresh) {
-                best = better_row(&self.numbers, best, row);
-            }
-        }
-        Handle { row: best }
-    }
-
-    // The row of a handle's entry, for what stands in that row; none where there is no entry.
-    pub fn row_of(&self, h: Handle) -> Option<usize>
-        ensures row { result ≡ row_held (state self.now) h }
-        ensures within { IfSome result (λ i. i < most_entries) }
-    {
-        has(self.used, h.row).then_some(h.row)
-    }
-
-    // Whether a handle has an entry.
-    pub fn is_there(&self, h: Handle) -> bool
-        ensures { result ≡ ltb (place_of self.now h) (length (view self.now)) }
-    {
-        has(self.used, h.row)
-    }
-
-    // A new entry, without records, after the others: its handle. A 65th entry, or a name over 255 bytes, changes nothing, and the handle
-    // is that of no entry.
-    pub fn open(&mut self, name: &[u8], prefix: bool, fresh: bool, class: u64) -> Handle
-        ensures opens { Opens result (bare_entry most_faces name.now prefix fresh (class_of class)) (view self.old) (view self.new)
-            (place_of self.old) (place_of self.new) (marks_of self.old) (marks_of self.new) }
-        ensures records { self.new.recs ≡ self.old.recs }
-    {
-        let row = free(self.used);
-        if row < ENTRIES && put_bytes(&mut self.names[row], 0, name).is_some() {
-            self.heads[row] = bare(name.len() as u64, prefix, fresh, class);
-            self.used = open_row(&mut self.numbers, self.used).used;
-            Handle { row }
-        } else {
-            Handle { row: ENTRIES }
-        }
-    }
-
-    // Takes the entry of a handle out; a handle of no entry changes nothing.
-    pub fn take_out(&mut self, h: Handle)
-        ensures taken { TakesOut h (view self.old) (view self.new) (place_of self.old) (place_of self.new) (marks_of self.old)
-            (marks_of self.new) }
-        ensures rows { RowsStay self.old self.new }
-    {
-        self.used = remove(self.used, h.row);
-    }
-
-    // The name of a handle's entry, where it stands; no bytes where there is none.
-    pub fn name_of(&self, h: Handle) -> &[u8]
-        ensures { result.now ≡ given [] (λ e. e.name) (entry_at self.now h) }
-    {
-        match self.row_of(h) {
-            Some(row) => part(&self.names[row], self.heads[row][LENGTH]),
-            None => &[],
-        }
-    }
-
-    // The flags and the class word of a handle's entry; false, false and 0, which is no class, where there is none.
-    pub fn facts_of(&self, h: Handle) -> Facts
-        ensures { result ≡ given nothing facts_of (entry_at self.now h) }
-    {
-        match self.row_of(h) {
-            Some(row) => Facts {
-                prefix: self.heads[row][PREFIX] == 1,
-                fresh: self.heads[row][FRESH] == 1,
-                class: self.heads[row][CLASS],
-            },
-            None => Facts::default(),
-        }
-    }
-
-    // The choice of the entries that a Data's name matches.
-    pub fn matching(&self, name: &[u8]) -> Chosen
-        ensures { marks_of self.now result ≡ map (matches name.now) (view self.now) }
-    {
-        let mut rows = self.used;
-        for row in RowWalk::of(self.used) {
-            rows = kept(
-                rows,
-                row,
-                is_match(&self.names[row], &self.heads[row], name),
-            );
-        }
-        Chosen { rows }
-    }
-
-    // The choice of all entries.
-    pub fn all(&self) -> Chosen
-        ensures { marks_of self.now result ≡ map (λ _. true) (view self.now) }
-    {
-        Chosen { rows: self.used }
-    }
-
-    // Of the chosen entries the one that was opened first, or the handle of no entry.
-    pub fn next(&self, c: Chosen) -> Handle
-        ensures { Finds (place_of self.now) (handle_of self.now) (index_of (λ b. b) (marks_of self.now c)) result }
-    {
-        Handle {
-            row: least(&self.numbers, self.used & c.rows),
-        }
-    }
-
-    // The choice without a handle's entry.
-    pub fn rest(&self, c: Chosen, h: Handle) -> Chosen
-        ensures { marks_of self.now result ≡ on_at (place_of self.now h) (λ _. false) (marks_of self.now c) }
-    {
-        Chosen {
-            rows: remove(c.rows, h.row),
-        }
-    }
-
     // How many entries each class has.
     pub fn use_by_class(&self) -> Uses
         ensures { result ≡ uses_of (view self.now) }
@@ -304,5 +192,155 @@ impl Pending {
             most_entries }
     {
         self.use_by_class().counted(class).room_taken() <= ENTRIES as u64
+    }
+}
+
+// How many entries there are, in any table of these used rows.
+pub fn size(used: u64) -> usize
+    ensures { (n hs : List (List ℕ)) (r : List (List (List ℕ))) (k : List ℕ) → result ≡ length (view (table n hs r k used)) }
+{
+    used.count_ones() as usize
+}
+
+// "An entry is known by name and both flags": its handle, or that of no entry. ENTRIES is the best of no rows, as `better_row` has it.
+pub fn find(
+    names: &Names,
+    heads: &Heads,
+    numbers: &Numbers,
+    used: u64,
+    name: &[u8],
+    prefix: bool,
+    fresh: bool,
+) -> Handle
+    ensures { (r : List (List (List ℕ))) → Finds (place_of (table names.now heads.now r numbers.now used))
+        (handle_of (table names.now heads.now r numbers.now used))
+        (index_of (is_known name.now prefix fresh) (view (table names.now heads.now r numbers.now used))) result }
+{
+    let mut best = ENTRIES;
+    for row in RowWalk::of(used) {
+        if is_known(&names[row], &heads[row], name, prefix, fresh) {
+            best = better_row(numbers, best, row);
+        }
+    }
+    Handle { row: best }
+}
+
+// A new entry, without records, after the others: its handle, whatever the records are. A 65th entry, or a name over 255 bytes, changes
+// nothing, and the handle is that of no entry.
+pub fn open(
+    names: &mut Names,
+    heads: &mut Heads,
+    numbers: &mut Numbers,
+    used: &mut u64,
+    name: &[u8],
+    prefix: bool,
+    fresh: bool,
+    class: u64,
+) -> Handle
+    ensures { (r : List (List (List ℕ))) → Opens result (bare_entry most_faces name.now prefix fresh (class_of class))
+        (view (table names.old heads.old r numbers.old used.old)) (view (table names.new heads.new r numbers.new used.new))
+        (place_of (table names.old heads.old r numbers.old used.old)) (place_of (table names.new heads.new r numbers.new used.new))
+        (marks_of (table names.old heads.old r numbers.old used.old)) (marks_of (table names.new heads.new r numbers.new used.new)) }
+{
+    let row = free(*used);
+    if row < ENTRIES && put_bytes(&mut names[row], 0, name).is_some() {
+        heads[row] = bare(name.len() as u64, prefix, fresh, class);
+        *used = open_row(numbers, *used).used;
+        Handle { row }
+    } else {
+        Handle { row: ENTRIES }
+    }
+}
+
+// The row of a handle's entry, for what stands in that row; none where there is no entry.
+pub fn row_of(used: u64, h: Handle) -> Option<usize>
+    ensures row { result ≡ row_held (record { used = used }) h }
+    ensures within { IfSome result (λ i. i < most_entries) }
+{
+    has(used, h.row).then_some(h.row)
+}
+
+// Whether a handle has an entry, in any table of these used rows.
+pub fn is_there(used: u64, h: Handle) -> bool
+    ensures { (n hs : List (List ℕ)) (r : List (List (List ℕ))) (k : List ℕ)
+        → result ≡ ltb (place_of (table n hs r k used) h) (length (view (table n hs r k used))) }
+{
+    has(used, h.row)
+}
+
+// Takes the entry of a handle out, of any table of these used rows; a handle of no entry changes nothing.
+pub fn take_out(used: &mut u64, h: Handle)
+    ensures { (n hs : List (List ℕ)) (r : List (List (List ℕ))) (k : List ℕ)
+        → TakesOut h (view (table n hs r k used.old)) (view (table n hs r k used.new))
+        (place_of (table n hs r k used.old)) (place_of (table n hs r k used.new))
+        (marks_of (table n hs r k used.old)) (marks_of (table n hs r k used.new)) }
+{
+    *used = remove(*used, h.row);
+}
+
+// The name of a handle's entry, where it stands; no bytes where there is none.
+pub fn name_of<'a>(names: &'a Names, heads: &Heads, used: u64, h: Handle) -> &'a [u8]
+    ensures { (r : List (List (List ℕ))) (k : List ℕ)
+        → result.now ≡ given [] (λ e. e.name) (entry_at (table names.now heads.now r k used) h) }
+{
+    match row_of(used, h) {
+        Some(row) => part(&names[row], heads[row][LENGTH]),
+        None => &[],
+    }
+}
+
+// The flags and the class word of a handle's entry; false, false and 0, which is no class, where there is none.
+pub fn facts_of(heads: &Heads, used: u64, h: Handle) -> Facts
+    ensures { (n : List (List ℕ)) (r : List (List (List ℕ))) (k : List ℕ)
+        → result ≡ given nothing facts_of (entry_at (table n heads.now r k used) h) }
+{
+    match row_of(used, h) {
+        Some(row) => Facts {
+            prefix: heads[row][PREFIX] == 1,
+            fresh: heads[row][FRESH] == 1,
+            class: heads[row][CLASS],
+        },
+        None => Facts::default(),
+    }
+}
+
+// The choice of the entries that a Data's name matches.
+pub fn matching(names: &Names, heads: &Heads, used: u64, name: &[u8]) -> Chosen
+    ensures { (r : List (List (List ℕ))) (k : List ℕ)
+        → marks_of (table names.now heads.now r k used) result
+        ≡ map (matches name.now) (view (table names.now heads.now r k used)) }
+{
+    let mut rows = used;
+    for row in RowWalk::of(used) {
+        rows = kept(rows, row, is_match(&names[row], &heads[row], name));
+    }
+    Chosen { rows }
+}
+
+// The choice of all entries, in any table of these used rows.
+pub fn all(used: u64) -> Chosen
+    ensures { (n hs : List (List ℕ)) (r : List (List (List ℕ))) (k : List ℕ)
+        → marks_of (table n hs r k used) result ≡ map (λ _. true) (view (table n hs r k used)) }
+{
+    Chosen { rows: used }
+}
+
+// Of the chosen entries the one that was opened first, or the handle of no entry, in any table of these numbers and used rows.
+pub fn next(numbers: &Numbers, used: u64, c: Chosen) -> Handle
+    ensures { (n hs : List (List ℕ)) (r : List (List (List ℕ)))
+        → Finds (place_of (table n hs r numbers.now used)) (handle_of (table n hs r numbers.now used))
+        (index_of (λ b. b) (marks_of (table n hs r numbers.now used) c)) result }
+{
+    Handle {
+        row: least(numbers, used & c.rows),
+    }
+}
+
+// The choice without a handle's entry, in any table.
+pub fn rest(c: Chosen, h: Handle) -> Chosen
+    ensures { (p : Pending) → marks_of p result ≡ on_at (place_of p h) (λ _. false) (marks_of p c) }
+{
+    Chosen {
+        rows: remove(c.rows, h.row),
     }
 }

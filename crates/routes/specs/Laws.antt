@@ -2,4 +2,3 @@ pub mod Bridge
 pub mod Hop
 pub mod Longest
 pub mod Setting
-pub mod Stays

@@ -1,4 +1,6 @@
 pub mod View
 pub mod Hop
 pub mod Longest
+pub mod Parts
+pub mod Lent
 pub mod Stays

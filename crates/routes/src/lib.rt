@@ -1,17 +1,20 @@
 // The routes: a prefix, its class word, the set of its next hops and their costs, a row for each, in the order in which they were set.
 #![tactic(auto)]
 
-ghost use Rattle.std.specs.Prelude.{◌≡◌, [], map, min, ◌≤◌, ◌<◌, length, get_or, MatchOption};
+ghost use Rattle.std.specs.Prelude.{◌≡◌, List, [], map, min, ℕ, ◌≤◌, ◌<◌, length, get_or, MatchOption};
 ghost use Rattle.std.proofs.Math.Option.{none, some};
 ghost use Rattle.laws.specs.Lists.{on_at, without};
-ghost use Rattle.sizes.specs.Sizes.{most_faces, most_routes, most_name};
+ghost use Rattle.sizes.specs.Sizes.{most_faces, most_routes};
 ghost use Rattle.faces.specs.Set.{has_face};
 ghost use Rattle.records.specs.Class.{class_of};
 ghost use Rattle.records.specs.Slots.{is_some, given};
-ghost use Rattle.records.specs.Route.{route_of, new_route, with_hop, hop_at, cheapest_of};
-ghost use Rattle.routes.specs.Places.View.{view, placed, found, count_of, route_row};
+ghost use Rattle.records.specs.Route.{route_of, with_hop, hop_at, cheapest_of};
+ghost use Rattle.routes.specs.declared.Count.{Count};
+ghost use Rattle.routes.specs.declared.Routes.{Routes};
+ghost use Rattle.routes.specs.Places.View.{view, placed, found, Finds, count_of, route_row};
+ghost use Rattle.routes.specs.Places.Parts.{table};
 ghost use Rattle.faces.specs.Found.{face_in};
-ghost use Rattle.routes.specs.Places.Stays.{PrefixesStay, CostsStay, RowsStay};
+ghost use Rattle.routes.specs.Places.Stays.{RowsStay};
 ghost use Rattle.routes.specs.Places.Hop.{least_of};
 ghost use Rattle.routes.specs.Operations.{Sets, longest_at, hops_of, class_word};
 
@@ -21,22 +24,63 @@ use rows::part;
 use sizes::{FACES, NAME, ROUTES};
 use wire::put_bytes;
 
-// A route: the bytes of its prefix ("Name at most .. 255 bytes") and how many of them are the prefix, its class word, the set of the faces
-// that are its next hops, and the cost of each.
+// For each route the bytes of its prefix: "Name at most .. 255 bytes".
+pub type Prefixes = [[u8; NAME]; ROUTES];
+
+// A route: how many bytes its prefix has, its class word, and the set of the faces that are its next hops.
 #[derive(Clone, Copy)]
 pub struct Row {
-    pub name: [u8; NAME],
     pub len: u64,
     pub class: u64,
     pub hops: u64,
-    pub costs: [u64; FACES],
 }
 
-// The routes ("Routes 32"), and how many there are. Nobody above reads its fields.
+// The rows of the routes ("Routes 32").
+pub type Rows = [Row; ROUTES];
+
+// For each route the cost of each face that is a next hop.
+pub type Costs = [[u64; FACES]; ROUTES];
+
+// How many routes there are. Nobody above reads its field.
+#[derive(Clone, Copy)]
+pub struct Count {
+    count: usize,
+}
+
+// The routes, and how many there are.
 #[derive(Clone, Copy)]
 pub struct Routes {
-    pub rows: [Row; ROUTES],
-    count: usize,
+    pub prefixes: Prefixes,
+    pub rows: Rows,
+    pub costs: Costs,
+    pub count: Count,
+}
+
+// Routes that are lent for one to be set: their costs stay.
+#[derive(Drop)]
+pub struct Setting<'a> {
+    pub prefixes: &'a mut Prefixes,
+    pub rows: &'a mut Rows,
+    pub costs: &'a Costs,
+    pub count: &'a mut Count,
+}
+
+// Routes that are lent for a hop to be added: their prefixes stay, and how many there are.
+#[derive(Drop)]
+pub struct Hopping<'a> {
+    pub prefixes: &'a Prefixes,
+    pub rows: &'a mut Rows,
+    pub costs: &'a mut Costs,
+    pub count: Count,
+}
+
+// Routes that are lent for hops to be dropped: their prefixes and costs stay, and how many there are.
+#[derive(Drop)]
+pub struct Dropping<'a> {
+    pub prefixes: &'a Prefixes,
+    pub rows: &'a mut Rows,
+    pub costs: &'a Costs,
+    pub count: Count,
 }
 
 // A route. Nobody above reads its field.
@@ -45,52 +89,40 @@ pub struct Handle {
     at: usize,
 }
 
-impl Row {
-    // The bytes of the prefix.
-    fn prefix(&self) -> &[u8]
-        ensures { result.now ≡ (route_row most_faces self.now).name }
+impl Count {
+    // No routes, whatever the memory holds.
+    pub fn none() -> Count
+        ensures no_routes { (t : Routes) → t.count ≡ result → view t ≡ [] }
+        ensures counted { (t : Routes) → t.count ≡ result → count_of t ≡ 0 }
     {
-        part(&self.name, self.len)
+        Count { count: 0 }
     }
 
-    // Makes the row that of a new route. No face is in its set, so that its costs may be anything.
-    fn start(&mut self, prefix: &[u8], class: u64)
-        requires { length prefix.now ≤ most_name }
-        ensures starts { route_row most_faces self.new ≡ new_route most_faces prefix.now (class_of class) }
-        ensures costs { self.new.costs ≡ self.old.costs }
+    // How many routes there are: a count past the table's size is the size.
+    fn cut(self) -> usize
+        ensures { result ≡ min self.count most_routes }
     {
-        put_bytes(&mut self.name, 0, prefix);
-        self.len = prefix.len() as u64;
-        self.class = class;
-        self.hops = 0;
+        self.count.min(ROUTES)
     }
+}
 
-    // Puts a hop in, or changes its cost; a number that is no face changes nothing.
-    fn add_hop(&mut self, face: usize, cost: u64)
-        ensures changed { route_row most_faces self.new ≡ with_hop face (some cost) (route_row most_faces self.old) }
-        ensures name { self.new.name ≡ self.old.name }
-    {
-        if 0 < face && face <= FACES {
-            self.hops = faces::add(self.hops, face);
-            self.costs[face - 1] = cost;
-        }
-    }
+// Puts a hop into a row and its costs, or changes its cost.
+fn put_hop(row: &mut Row, costs: &mut [u64; FACES], face: usize, cost: u64)
+    requires above { 1 ≤ face }
+    requires within { face ≤ most_faces }
+    ensures { (name : List ℕ) → route_row most_faces name row.new costs.new
+        ≡ with_hop face (some cost) (route_row most_faces name row.old costs.old) }
+{
+    row.hops = faces::add(row.hops, face);
+    costs[face - 1] = cost;
+}
 
-    // Drops a hop.
-    fn drop_hop(&mut self, face: usize)
-        ensures changed { route_row most_faces self.new ≡ with_hop face none (route_row most_faces self.old) }
-        ensures name { self.new.name ≡ self.old.name }
-        ensures costs { self.new.costs ≡ self.old.costs }
-    {
-        self.hops = faces::remove(self.hops, face);
-    }
-
-    // The cheapest hop that is in a set of faces, "ties to the lower face".
-    fn cheapest(&self, set: u64) -> Option<usize>
-        ensures { face_in result ≡ cheapest_of (has_face most_faces set) (route_row most_faces self.now) }
-    {
-        least(faces::common(self.hops, set), &self.costs)
-    }
+// Takes a hop out of a row.
+fn take_hop(row: &mut Row, face: usize)
+    ensures { (name costs : List ℕ) → route_row most_faces name row.new costs
+        ≡ with_hop face none (route_row most_faces name row.old costs) }
+{
+    row.hops = faces::remove(row.hops, face);
 }
 
 // The face of the least cost among those of a set, the lowest of them.
@@ -100,6 +132,115 @@ fn least(set: u64, costs: &[u64; FACES]) -> Option<usize>
     Walk::of(set).min_by_key(|face| costs[*face - 1])
 }
 
+// The row of a route, if there is one.
+fn row_of(rows: &Rows, count: Count, route: Handle) -> Option<&Row>
+    ensures { (p c : List (List ℕ)) → MatchOption result (found (table p rows.now c count) route ≡ none)
+        (λ r. found (table p rows.now c count) route
+        ≡ some (route_row most_faces (get_or p route.at []) r.now (get_or c route.at []))) }
+{
+    rows[..count.cut()].get(route.at)
+}
+
+// The route of a prefix, if it is known.
+pub fn find(prefixes: &Prefixes, rows: &Rows, count: Count, prefix: &[u8]) -> Option<Handle>
+    ensures { (c : List (List ℕ)) → Finds (table prefixes.now rows.now c count)
+        (route_of prefix.now (view (table prefixes.now rows.now c count))) result }
+{
+    for i in 0..count.cut() {
+        if same(prefix, part(&prefixes[i], rows[i].len)) {
+            return Some(Handle { at: i });
+        }
+    }
+    None
+}
+
+// Whether a handle stands for a route.
+pub fn is_there(count: Count, route: Handle) -> bool
+    ensures { (t : Routes) → t.count ≡ count → result ≡ is_some (found t route) }
+{
+    route.at < count.cut()
+}
+
+// Whether a face is a next hop of a route.
+pub fn has_hop(rows: &Rows, count: Count, route: Handle, face: usize) -> bool
+    ensures { (p c : List (List ℕ)) → result
+        ≡ is_some (hop_at face (placed (table p rows.now c count) route) (view (table p rows.now c count))) }
+{
+    row_of(rows, count, route).is_some_and(|row| faces::has(row.hops, face))
+}
+
+// "Setting a route gives a prefix (empty allowed) and class; for a known prefix the hops stay." A 33rd route, or a prefix over
+// 255 bytes, changes nothing. Whether the prefix is known or fits.
+pub fn set(
+    prefixes: &mut Prefixes,
+    rows: &mut Rows,
+    count: &mut Count,
+    prefix: &[u8],
+    class: u64,
+) -> bool
+    ensures sets { (c : List (List ℕ)) → Sets most_faces result (view (table prefixes.new rows.new c count.new)) prefix.now
+        (class_of class) (view (table prefixes.old rows.old c count.old)) }
+    ensures counted { (c : List (List ℕ)) → count_of (table prefixes.new rows.new c count.new)
+        ≡ length (view (table prefixes.new rows.new c count.new)) }
+{
+    let known = find(prefixes, rows, *count, prefix);
+    let n = count.cut();
+    count.count = n;
+    if let Some(route) = known {
+        rows[route.at].class = class;
+        true
+    } else if prefix.len() <= NAME && n < ROUTES {
+        put_bytes(&mut prefixes[n], 0, prefix);
+        // No face is in the set of a new route, so that its costs may be anything.
+        rows[n] = Row {
+            len: prefix.len() as u64,
+            class,
+            hops: 0,
+        };
+        count.count = n + 1;
+        true
+    } else {
+        false
+    }
+}
+
+// "Adding a known hop changes its cost." A number that is no face changes nothing.
+pub fn add_hop(
+    rows: &mut Rows,
+    costs: &mut Costs,
+    count: Count,
+    route: Handle,
+    face: usize,
+    cost: u64,
+)
+    ensures { (p : List (List ℕ)) → view (table p rows.new costs.new count)
+        ≡ on_at (placed (table p rows.old costs.old count) route) (with_hop face (some cost)) (view (table p rows.old costs.old count)) }
+{
+    let i = route.at;
+    if i < count.cut() && 0 < face && face <= FACES {
+        put_hop(&mut rows[i], &mut costs[i], face, cost);
+    }
+}
+
+// Drops a hop; "a route without hops stays, class and all".
+pub fn drop_hop(rows: &mut Rows, count: Count, route: Handle, face: usize)
+    ensures { (p c : List (List ℕ)) → view (table p rows.new c count)
+        ≡ on_at (placed (table p rows.old c count) route) (with_hop face none) (view (table p rows.old c count)) }
+{
+    if route.at < count.cut() {
+        take_hop(&mut rows[route.at], face);
+    }
+}
+
+// A face closes: "Its next hops go too".
+pub fn drop_face(rows: &mut Rows, face: usize)
+    ensures { (p c : List (List ℕ)) (n : Count) → view (table p rows.new c n) ≡ map (with_hop face none) (view (table p rows.old c n)) }
+{
+    for row in rows {
+        take_hop(row, face);
+    }
+}
+
 impl Routes {
     // A table with no routes.
     pub fn new() -> Routes
@@ -107,30 +248,16 @@ impl Routes {
         ensures counted { count_of result ≡ 0 }
     {
         let row = Row {
-            name: [0; NAME],
             len: 0,
             class: 0,
             hops: 0,
-            costs: [0; FACES],
         };
         Routes {
+            prefixes: [[0; NAME]; ROUTES],
             rows: [row; ROUTES],
-            count: 0,
+            costs: [[0; FACES]; ROUTES],
+            count: Count { count: 0 },
         }
-    }
-
-    // How many routes there are: a count past the table's size is the size.
-    fn count(&self) -> usize
-        ensures { result ≡ min self.now.count most_routes }
-    {
-        self.count.min(ROUTES)
-    }
-
-    // The row of a route, if there is one.
-    fn row(&self, route: Handle) -> Option<&Row>
-        ensures { MatchOption result (found self.now route ≡ none) (λ r. found self.now route ≡ some (route_row most_faces r.now)) }
-    {
-        self.rows[..self.count()].get(route.at)
     }
 
     // No routes, whatever the memory holds.
@@ -139,46 +266,7 @@ impl Routes {
         ensures counted { count_of self.new ≡ 0 }
         ensures rows { RowsStay self.old self.new }
     {
-        self.count = 0;
-    }
-
-    // The route of a prefix, if it is known.
-    pub fn find(&self, prefix: &[u8]) -> Option<Handle>
-        ensures { MatchOption result (route_of prefix.now (view self.now) ≡ length (view self.now))
-            (λ h. (placed self.now h ≡ route_of prefix.now (view self.now)) × (placed self.now h < length (view self.now))) }
-    {
-        self.rows[..self.count()]
-            .iter()
-            .position(|row| same(prefix, row.prefix()))
-            .map(|at| Handle { at })
-    }
-
-    // Whether a handle stands for a route.
-    pub fn is_there(&self, route: Handle) -> bool
-        ensures { result ≡ is_some (found self.now route) }
-    {
-        self.row(route).is_some()
-    }
-
-    // "Setting a route gives a prefix (empty allowed) and class; for a known prefix the hops stay." A 33rd route, or a prefix over
-    // 255 bytes, changes nothing. Whether the prefix is known or fits.
-    pub fn set(&mut self, prefix: &[u8], class: u64) -> bool
-        ensures sets { Sets most_faces result (view self.new) prefix.now (class_of class) (view self.old) }
-        ensures counted { count_of self.new ≡ length (view self.new) }
-        ensures costs { CostsStay self.old self.new }
-    {
-        let known = self.find(prefix);
-        self.count = self.count();
-        if let Some(route) = known {
-            self.rows[route.at].class = class;
-            true
-        } else if prefix.len() <= NAME && self.count < ROUTES {
-            self.rows[self.count].start(prefix, class);
-            self.count += 1;
-            true
-        } else {
-            false
-        }
+        self.count.count = 0;
     }
 
     // Takes a route out; a handle that stands for none changes nothing.
@@ -186,53 +274,14 @@ impl Routes {
         ensures gone { view self.new ≡ without (placed self.old route) (view self.old) }
         ensures counted { count_of self.new ≡ length (view self.new) }
     {
-        self.count = self.count();
-        if route.at < self.count {
-            self.rows.copy_within(route.at + 1..self.count, route.at);
-            self.count -= 1;
-        }
-    }
-
-    // "Adding a known hop changes its cost."
-    pub fn add_hop(&mut self, route: Handle, face: usize, cost: u64)
-        ensures changed { view self.new ≡ on_at (placed self.old route) (with_hop face (some cost)) (view self.old) }
-        ensures counted { count_of self.new ≡ count_of self.old }
-        ensures prefixes { PrefixesStay self.old self.new }
-    {
-        if route.at < self.count() {
-            self.rows[route.at].add_hop(face, cost);
-        }
-    }
-
-    // Drops a hop; "a route without hops stays, class and all".
-    pub fn drop_hop(&mut self, route: Handle, face: usize)
-        ensures changed { view self.new ≡ on_at (placed self.old route) (with_hop face none) (view self.old) }
-        ensures counted { count_of self.new ≡ count_of self.old }
-        ensures prefixes { PrefixesStay self.old self.new }
-        ensures costs { CostsStay self.old self.new }
-    {
-        if route.at < self.count() {
-            self.rows[route.at].drop_hop(face);
-        }
-    }
-
-    // Whether a face is a next hop of a route.
-    pub fn has_hop(&self, route: Handle, face: usize) -> bool
-        ensures { result ≡ is_some (hop_at face (placed self.now route) (view self.now)) }
-    {
-        self.row(route)
-            .is_some_and(|row| faces::has(row.hops, face))
-    }
-
-    // A face closes: "Its next hops go too".
-    pub fn drop_face(&mut self, face: usize)
-        ensures changed { view self.new ≡ map (with_hop face none) (view self.old) }
-        ensures counted { count_of self.new ≡ count_of self.old }
-        ensures prefixes { PrefixesStay self.old self.new }
-        ensures costs { CostsStay self.old self.new }
-    {
-        for row in &mut self.rows {
-            row.drop_hop(face);
+        let n = self.count.cut();
+        self.count.count = n;
+        let i = route.at;
+        if i < n {
+            self.prefixes.copy_within(i + 1..n, i);
+            self.rows.copy_within(i + 1..n, i);
+            self.costs.copy_within(i + 1..n, i);
+            self.count.count = n - 1;
         }
     }
 
@@ -244,8 +293,8 @@ impl Routes {
         // From the last route to the first: what was found so far gives way to a match that is no shorter.
         let mut best = None;
         let mut most = 0;
-        for i in (0..self.count()).rev() {
-            let prefix = self.rows[i].prefix();
+        for i in (0..self.count.cut()).rev() {
+            let prefix = part(&self.prefixes[i], self.rows[i].len);
             let len = prefix.len();
             if most <= len && is_prefix(prefix, name) {
                 best = Some(Handle { at: i });
@@ -259,20 +308,25 @@ impl Routes {
     pub fn class_of(&self, route: Handle) -> u64
         ensures { result ≡ given 0 class_word (found self.now route) }
     {
-        self.row(route).map_or(0, |row| row.class)
+        row_of(&self.rows, self.count, route).map_or(0, |row| row.class)
     }
 
     // The set of the next hops of a route.
     pub fn hops_of(&self, route: Handle) -> u64
         ensures { result ≡ given 0 (hops_of most_faces) (found self.now route) }
     {
-        self.row(route).map_or(0, |row| faces::members(row.hops))
+        row_of(&self.rows, self.count, route).map_or(0, |row| faces::members(row.hops))
     }
 
     // The cheapest next hop of a route that is in a set of faces, "ties to the lower face".
     pub fn cheapest(&self, route: Handle, set: u64) -> Option<usize>
         ensures { face_in result ≡ given none (cheapest_of (has_face most_faces set)) (found self.now route) }
     {
-        self.row(route)?.cheapest(set)
+        let i = route.at;
+        if i < self.count.cut() {
+            least(faces::common(self.rows[i].hops, set), &self.costs[i])
+        } else {
+            None
+        }
     }
 }

@@ -11,8 +11,8 @@ use Rattle.store.specs.Places.View.{view, count_of, place}
 use Rattle.store.specs.Laws.Hits.{looks_same}
 use Rattle.store.proofs.Store.is_there.Kinds as is-there-kinds
 use Rattle.store.proofs.Store.is_there.Reads as is-there-reads
-use Rattle.store.proofs.Store.bytes_of.Kinds as bytes-of-kinds
-use Rattle.store.proofs.Store.bytes_of.Reads as bytes-of-reads
+use Rattle.store.proofs.bytes_of.Kinds as bytes-of-kinds
+use Rattle.store.proofs.bytes_of.Reads as bytes-of-reads
 use Rattle.store.proofs.Store.put.Kinds as put-kinds
 use Rattle.store.proofs.Store.put.Reads as put_reads
 use Rattle.store.proofs.Store.look.Kinds as look-kinds
@@ -30,7 +30,8 @@ is_there_same κs a b x y s t v h p q = rw (v, h) at p ∙ sym q
 -- the bytes of a Data
 pub bytes_of_same : (κs : Lfts 1) (a b : Dens κs bytes-of-kinds.ps) (x y : (res_t bytes-of-kinds.r κs).Denot)
     (s t : AtExit (ended_of 1 bytes-of-kinds.ps bytes-of-kinds.r) κs)
-    → view a.0.now ≡ view b.0.now → place a.0.now a.1.0 ≡ place b.0.now b.1.0
+    → view (record { rows = a.0.now; count = a.1.0 }) ≡ view (record { rows = b.0.now; count = b.1.0 })
+    → place (record { rows = a.0.now; count = a.1.0 }) a.1.1.0 ≡ place (record { rows = b.0.now; count = b.1.0 }) b.1.1.0
     → bytes-of-reads.Post κs a x s → bytes-of-reads.Post κs b y t → x.now ≡ y.now
 bytes_of_same κs a b x y s t v h p q = rw (v, h) at p.0 ∙ sym q.0
 

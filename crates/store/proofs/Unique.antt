@@ -13,8 +13,8 @@ use Rattle.store.proofs.Store.clear.Kinds as clear-kinds
 use Rattle.store.proofs.Store.clear.Reads as clear-reads
 use Rattle.store.proofs.Store.is_there.Kinds as is-there-kinds
 use Rattle.store.proofs.Store.is_there.Reads as is-there-reads
-use Rattle.store.proofs.Store.bytes_of.Kinds as bytes-of-kinds
-use Rattle.store.proofs.Store.bytes_of.Reads as bytes-of-reads
+use Rattle.store.proofs.bytes_of.Kinds as bytes-of-kinds
+use Rattle.store.proofs.bytes_of.Reads as bytes-of-reads
 use Rattle.store.proofs.Store.put.Kinds as put-kinds
 use Rattle.store.proofs.Store.put.Reads as put_reads
 use Rattle.store.proofs.Store.look.Kinds as look-kinds

@@ -28,11 +28,14 @@ pub struct Row {
     pub freshness: u64,
 }
 
-// The Data ("stored Data 8"), and how many there are. Nobody above reads its fields.
+// The rows of the Data ("stored Data 8").
+pub type Rows = [Row; STORED];
+
+// The Data, and how many there are: a count of 0 empties it. Nobody above reads its fields.
 #[derive(Clone, Copy)]
 pub struct Store {
-    pub rows: [Row; STORED],
-    count: usize,
+    pub rows: Rows,
+    pub count: usize,
 }
 
 // A Data; once that has gone, another one or none. Nobody above reads its field.
@@ -95,6 +98,24 @@ impl Row {
     }
 }
 
+// The rows that count.
+fn counted(rows: &Rows, count: usize) -> &[Row]
+    ensures { result.now ≡ take (min count most_stored) rows.now }
+{
+    &rows[..count.min(STORED)]
+}
+
+// The bytes of a Data, where they stand; none where there is no Data. Of the store the rows alone are lent for as long as the bytes are.
+pub fn bytes_of(rows: &Rows, count: usize, taken: Handle) -> &[u8]
+    ensures bytes { result.now ≡ given [] (λ d. d.bytes) (found (record { rows = rows.now; count = count }) taken) }
+    ensures fits { length result.now ≤ most_packet }
+{
+    match counted(rows, count).get(taken.at) {
+        Some(row) => row.bytes(),
+        None => &[],
+    }
+}
+
 impl Store {
     // A store with no Data.
     pub fn new() -> Store
@@ -133,7 +154,7 @@ impl Store {
     fn data(&self) -> &[Row]
         ensures { result.now ≡ take (min self.now.count most_stored) self.now.rows }
     {
-        &self.rows[..self.len()]
+        counted(&self.rows, self.count)
     }
 
     // Whether a handle stands for a Data.
@@ -141,17 +162,6 @@ impl Store {
         ensures { result ≡ is_some (found self.now taken) }
     {
         taken.at < self.len()
-    }
-
-    // The bytes of a Data, where they stand; none where there is no Data.
-    pub fn bytes_of(&self, taken: Handle) -> &[u8]
-        ensures bytes { result.now ≡ given [] (λ d. d.bytes) (found self.now taken) }
-        ensures fits { length result.now ≤ most_packet }
-    {
-        match self.data().get(taken.at) {
-            Some(row) => row.bytes(),
-            None => &[],
-        }
     }
 
     // The place of the Data with a name, if there is one.

@@ -13,6 +13,7 @@ ghost use Rattle.faces.specs.Places.View.{view};
 ghost use Rattle.faces.specs.Found.{face_in};
 ghost use Rattle.dead.specs.Places.View as dead;
 ghost use Rattle.routes.specs.Places.View as routes;
+ghost use Rattle.pending_table.specs.Places.Parts.{seen};
 ghost use Rattle.pending_table.specs.Places.View.{entry_at};
 ghost use Rattle.coming.specs.Places.Found.{limit_of};
 ghost use Rattle.rules.specs.Node.{Node};
@@ -25,7 +26,7 @@ ghost use Rattle.ways.specs.Places.Next.{next_of};
 use dead::Dead;
 use faces::{Faces, common, remove};
 use packets::HopLimit;
-use pending_table::{Handle, Pending};
+use pending_table::{Handle, Shown};
 use routes::Routes;
 use sizes::{MOST_LIFETIME, MOST_TIME};
 
@@ -83,16 +84,16 @@ pub fn expiry_of(time: u64, lifetime: u64) -> u64
 }
 
 // "the face is point-to-point and its own in-record has this nonce"
-fn is_own(p: &Pending, h: Handle, faces: Faces, face: usize, nonce: u64) -> bool
-    ensures { result ≡ given false (λ e. is_peer (view faces) face && own_nonce face nonce e) (entry_at p.now h) }
+fn is_own(p: Shown, h: Handle, faces: Faces, face: usize, nonce: u64) -> bool
+    ensures { result ≡ given false (λ e. is_peer (view faces) face && own_nonce face nonce e) (entry_at (seen p.entry) h) }
 {
     faces.is_peer(face) && pending_handle::own_nonce(p, h, face, nonce)
 }
 
 // "the entry has the nonce ..": "The entry does not count if the face is point-to-point and its own in-record has this nonce."
-fn entry_loops(p: &Pending, h: Handle, faces: Faces, face: usize, nonce: u64) -> bool
+fn entry_loops(p: Shown, h: Handle, faces: Faces, face: usize, nonce: u64) -> bool
     ensures { (n : Node) (a : Arrival) → n.faces ≡ view faces → a.face ≡ face → a.ask.nonce ≡ nonce
-        → result ≡ holds (entry_loops n a) (entry_at p.now h) }
+        → result ≡ holds (entry_loops n a) (entry_at (seen p.entry) h) }
 {
     !is_own(p, h, faces, face, nonce) && pending_handle::has_nonce(p, h, nonce)
 }
@@ -101,7 +102,7 @@ fn entry_loops(p: &Pending, h: Handle, faces: Faces, face: usize, nonce: u64) ->
 pub fn loops(
     time: u64,
     faces: Faces,
-    p: &Pending,
+    p: Shown,
     nonces: &Dead,
     start: u64,
     h: Handle,
@@ -110,24 +111,24 @@ pub fn loops(
     nonce: u64,
 ) -> bool
     ensures { (n : Node) (a : Arrival) → n.faces ≡ view faces → n.dead ≡ dead.view nonces.now → a.face ≡ face
-        → a.ask.name ≡ name.now → a.ask.nonce ≡ nonce → result ≡ loops_by start time n a (entry_at p.now h) }
+        → a.ask.name ≡ name.now → a.ask.nonce ≡ nonce → result ≡ loops_by start time n a (entry_at (seen p.entry) h) }
 {
     let print = names::fingerprint_from(start, name, nonce);
     nonces.is_dead(time, print) || entry_loops(p, h, faces, face, nonce)
 }
 
 // Whether some request of an entry is from a local face; a handle of no entry has none.
-fn is_from_local(p: &Pending, h: Handle, faces: Faces) -> bool
-    ensures { (n : Node) → n.faces ≡ view faces → result ≡ holds (from_local_face n) (entry_at p.now h) }
+fn is_from_local(p: Shown, h: Handle, faces: Faces) -> bool
+    ensures { (n : Node) → n.faces ≡ view faces → result ≡ holds (from_local_face n) (entry_at (seen p.entry) h) }
 {
     common(pending_handle::asking_faces(p, h), faces.all_local()) != 0
 }
 
 // "in the longest matching route, use the cheapest eligible hop without an out-record; failing that, the eligible hop with the earliest
 // one".
-fn choose(known: &Routes, p: &Pending, h: Handle, name: &[u8], may: u64) -> Option<usize>
+fn choose(known: &Routes, p: Shown, h: Handle, name: &[u8], may: u64) -> Option<usize>
     ensures { (q : ℕ → Bool) → may ≡ faces_where most_faces q
-        → face_in result ≡ next_of q (longest name.now (routes.view known.now)) (entry_at p.now h) }
+        → face_in result ≡ next_of q (longest name.now (routes.view known.now)) (entry_at (seen p.entry) h) }
 {
     let route = known.longest(name)?;
     let unsent = pending_handle::unsent(p, h, may);
@@ -145,7 +146,7 @@ pub fn next_hop(
     time: u64,
     faces: Faces,
     known: &Routes,
-    p: &Pending,
+    p: Shown,
     h: Handle,
     face: usize,
     name: &[u8],
@@ -153,7 +154,7 @@ pub fn next_hop(
 ) -> Option<usize>
     ensures { (n : Node) (a : Arrival) → n.faces ≡ view faces → n.routes ≡ routes.view known.now
         → a.face ≡ face → a.ask.name ≡ name.now → a.ask.hop ≡ limit_of hop
-        → face_in result ≡ resends_by time n a (entry_at p.now h) }
+        → face_in result ≡ resends_by time n a (entry_at (seen p.entry) h) }
 {
     if pending_handle::is_suppressed(p, h, time) {
         return None;

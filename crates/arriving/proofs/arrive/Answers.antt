@@ -44,7 +44,7 @@ returns-in-Ok-Data c =
     let m : Memory =
     record { time = a.time; faces = a.faces; routes = a.known.now; pending = a.p.now; store = a.stored.now; dead = a.nonces.now } in
     arrive_brings (node_of m) _ _ _ _ _ _ _ refl (allowed_zero _ _ (sym c.guard.ensures ∙ c.in_default.is)) _
-    c.read_bare.ensures _ _ _ _ _ (rw c.in-Ok-Data.field-0-is at c.in-Ok-Data.is) (c.data.ensures.goes a.known.now)
+    c.read_bare.ensures _ _ _ _ _ (rw c.in-Ok-Data.field-0-is at c.in-Ok-Data.is) (c.data.ensures a.known.now)
 
 pub returns-in-Ok-Nack : goal.returns-in-Ok-Nack
 unfolding node_of
@@ -53,4 +53,4 @@ returns-in-Ok-Nack c =
     let m : Memory =
     record { time = a.time; faces = a.faces; routes = a.known.now; pending = a.p.now; store = a.stored.now; dead = a.nonces.now } in
     arrive_nacks (node_of m) _ _ _ _ _ _ _ refl (allowed_zero _ _ (sym c.guard.ensures ∙ c.in_default.is)) _
-    c.read_bare.ensures _ _ _ _ _ _ (rw c.in-Ok-Nack.field-0-is at c.in-Ok-Nack.is) (c.nack.ensures.goes a.known.now a.stored.now)
+    c.read_bare.ensures _ _ _ _ _ _ (rw c.in-Ok-Nack.field-0-is at c.in-Ok-Nack.is) (c.nack.ensures a.known.now a.stored.now)

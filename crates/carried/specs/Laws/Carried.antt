@@ -39,13 +39,13 @@ Keeps c =
 -- so does every call of one of the eight functions
 made_keeps : (c : Call) → Made c → Keeps c
 made_keeps c (calls.packet κs a x s p) = p
-made_keeps c (calls.clock f r d κs a x s p) = p.0 f r d
-made_keeps c (calls.open_face r d κs a x s p) = p.0 r d
-made_keeps c (calls.close_face d κs a x s p) = p.0 d
-made_keeps c (calls.set_route f d κs a x s p) = p.0 f d
-made_keeps c (calls.drop_route f d κs a x s p) = p.0 f d
-made_keeps c (calls.add_hop d κs a x s p) = p.0 d
-made_keeps c (calls.drop_hop d κs a x s p) = p.0 d
+made_keeps c (calls.clock f r d κs a x s p) = p f r d
+made_keeps c (calls.open_face r d κs a x s p) = p r d
+made_keeps c (calls.close_face d κs a x s p) = p d
+made_keeps c (calls.set_route f d κs a x s p) = p f d
+made_keeps c (calls.drop_route f d κs a x s p) = p f d
+made_keeps c (calls.add_hop d κs a x s p) = p d
+made_keeps c (calls.drop_hop d κs a x s p) = p d
 
 -- with a buffer that is too short nothing is sent
 short_silent : (e : Event) (n : Node) → e.room < least_buffer → (paper_step e n).sends ≡ []

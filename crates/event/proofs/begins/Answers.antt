@@ -1,6 +1,5 @@
 -- By the checks: a refusal leaves all as it was; past them ageing is what its contract says.
 use mathlib.Core.Path.{refl, sym, ◌∙◌}
-use Rattle.pending_table.specs.Laws.Stays.{records_stayed}
 use Rattle.event.specs.Laws.Allowed.{allowed_refuses, allowed_zero, allowed_passes}
 use Rattle.event.specs.Laws.Begins.{begins_refused, begins_aged}
 use Rattle.event.proofs.begins.Goals as goal
@@ -17,14 +16,7 @@ returns-in_err-check-clause-refused c =
 
 pub returns-clause-begun : goal.returns-clause-begun
 returns-clause-begun c f r s =
-    begins_aged _ _ _ _ _ _ _ _ _ _ _ _ refl (allowed_zero _ _ (sym c.check.ensures ∙ c.in_ok-check.was)) refl c.age.ensures.ages
-
--- ageing leaves the names, the records and the numbers
-pub returns-clause-records : goal.returns-clause-records
-returns-clause-records c = c.age.ensures.records
-
-pub returns-in_err-check-clause-records : goal.returns-in_err-check-clause-records
-returns-in_err-check-clause-records c = records_stayed _
+    begins_aged _ _ _ _ _ _ _ _ _ _ _ _ refl (allowed_zero _ _ (sym c.check.ensures ∙ c.in_ok-check.was)) refl c.age.ensures
 
 pub returns-in_err-check-clause-kept : goal.returns-in_err-check-clause-kept
 returns-in_err-check-clause-kept c =

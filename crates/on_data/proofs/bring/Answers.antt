@@ -3,19 +3,21 @@ use mathlib.Core.Path.{refl}
 use Rattle.on_data.specs.Laws.Data.{brings_none, brings_some}
 use Rattle.on_data.proofs.bring.Goals as goal
 
-pub returns-then-size-stood-clause-goes : goal.returns-then-size-stood-clause-goes
-returns-then-size-stood-clause-goes c r =
+pub returns-then-size-stood : goal.returns-then-size-stood
+returns-then-size-stood c =
+    λ r.
     brings_none _ _ _ _ _ _ _ _ _ _ _ _ _ _
     c.requires.name_is
-    c.satisfy-met.ensures.satisfies _ _
-    c.size.ensures c.size-stood.ensures _ _ _ c.if-size-stood.true c.quiet.ensures
+    c.satisfy-met.ensures _ _
+    (c.size.ensures _ _ _ _) (c.size-stood.ensures _ _ _ _) _ _ _ c.if-size-stood.true c.quiet.ensures
 
-pub returns-clause-goes : goal.returns-clause-goes
-returns-clause-goes c r =
+pub returns : goal.returns
+returns c =
+    λ r.
     brings_some _ _ _ _ _ _ _ _ _ _ _ _ _ _
     c.requires.name_is
-    c.satisfy-met.ensures.satisfies _ _
-    c.size.ensures c.size-stood.ensures _ _ _ _ _ _ _ _ _
+    c.satisfy-met.ensures _ _
+    (c.size.ensures _ _ _ _) (c.size-stood.ensures _ _ _ _) _ _ _ _ _ _ _ _ _
     c.if-size-stood.false
     c.is_ad_hoc-adhoc.ensures
     c.requires.packet

@@ -1,16 +1,16 @@
 -- By what is asked again, then by the scope.
 use mathlib.Core.Path.{refl, sym}
 use Rattle.event.specs.Laws.Allowed.{allowed_zero}
-use Rattle.pending_table.specs.Laws.Stays.{rows_stayed}
 use Rattle.coming.specs.Laws.Guard.{guard_packet, guard_room}
 use Rattle.on_data.specs.Laws.Data.{data_stops, data_scope, data_brings}
 use Rattle.on_data.proofs.data.Goals as goal
 
-pub returns-in-Err-clause-goes : goal.returns-in-Err-clause-goes
-returns-in-Err-clause-goes c r = data_stops _ _ _ _ _ _ _ c.find_name-name.ensures _ _ (sym c.in-Err.ensures) c.quiet.ensures
+pub returns-in-Err : goal.returns-in-Err
+returns-in-Err c = λ r. data_stops _ _ _ _ _ _ _ c.find_name-name.ensures _ _ (sym c.in-Err.ensures) c.quiet.ensures
 
-pub returns-then-is_out_of_scope-clause-goes : goal.returns-then-is_out_of_scope-clause-goes
-returns-then-is_out_of_scope-clause-goes c r =
+pub returns-then-is_out_of_scope : goal.returns-then-is_out_of_scope
+returns-then-is_out_of_scope c =
+    λ r.
     data_scope _ _ _ _ _ _ _ c.find_name-name.ensures _ (sym c.in_default.ensures) _
     c.is_out_of_scope.ensures _
     c.if-is_out_of_scope.true c.quiet-then-is_out_of_scope.ensures
@@ -24,14 +24,9 @@ bring-requires c =
       room = guard_room _ _ _ _ _ refl zero;
     }
 
-pub returns-clause-goes : goal.returns-clause-goes
-returns-clause-goes c r =
+pub returns : goal.returns
+returns c =
+    λ r.
     data_brings _ _ _ _ _ _ _ c.find_name-name.ensures _ (sym c.in_default.ensures) _
     c.is_out_of_scope.ensures _ _ _
-    c.if-is_out_of_scope.false (c.bring.ensures.goes r)
-
-pub returns-in-Err-clause-rows : goal.returns-in-Err-clause-rows
-returns-in-Err-clause-rows c = rows_stayed _
-
-pub returns-then-is_out_of_scope-clause-rows : goal.returns-then-is_out_of_scope-clause-rows
-returns-then-is_out_of_scope-clause-rows c = rows_stayed _
+    c.if-is_out_of_scope.false (c.bring.ensures r)

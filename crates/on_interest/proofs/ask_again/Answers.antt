@@ -12,11 +12,11 @@ unfolding face_in
 returns-in_default c s d e at =
     let a = c.args in
     let m : Memory = record { time = a.time; faces = a.faces; routes = a.known.now; pending = a.p.now; store = s; dead = d } in
-    let class_is = facts_class _ e _ at c.facts_of-class.ensures in
+    let class_is = facts_class _ e _ at (c.facts_of-class.ensures _ _ _) in
     let next = next_hop_own _ _ _ _ _ _ _ _ c.in_default.ensures in
     goes_is _ _ _ _ _ _ _ c.quiet.ensures
     (again_quiet m a.made a.face a.bare.now a.name.now a.i _ _ e _ _ _ _ _ _ _ c.requires at
-    c.expiry_of-expiry.ensures c.renew.ensures.changed (c.renew.ensures.stands.places _) next
+    c.expiry_of-expiry.ensures (c.renew.ensures _ _) refl next
     (c.note_opening-noted.ensures _ e at class_is) _ refl)
 
 pub returns : goal.returns
@@ -24,9 +24,9 @@ unfolding face_in
 returns c s d e at =
     let a = c.args in
     let m : Memory = record { time = a.time; faces = a.faces; routes = a.known.now; pending = a.p.now; store = s; dead = d } in
-    let class_is = facts_class _ e _ at c.facts_of-class.ensures in
+    let class_is = facts_class _ e _ at (c.facts_of-class.ensures _ _ _) in
     let next = next_hop_own _ _ _ _ _ _ _ _ c.in-Some.ensures in
     again_sends m a.made a.face a.bare.now a.name.now a.i _ _ e _ _ _ _ _ _ _ c.requires at
-    c.expiry_of-expiry.ensures c.renew.ensures.changed (c.renew.ensures.stands.places _) next
+    c.expiry_of-expiry.ensures (c.renew.ensures _ _) refl next
     (c.note_opening-noted.ensures _ e at class_is) _ _ _ _ _ _ _ refl
-    class_is c.send.ensures.changed c.send_interest.ensures
+    class_is (c.send.ensures _ _) c.send_interest.ensures

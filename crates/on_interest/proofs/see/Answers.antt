@@ -6,7 +6,10 @@ use Rattle.on_interest.proofs.see.Goals as goal
 
 pub returns : goal.returns
 returns c =
+    let p = c.args.p in
     record {
-      looping = λ n a x p d y w z v. loops_own _ _ _ _ _ _ _ _ _ c.loops-looped.ensures n a x p d y w z (c.find-handle.ensures.at ∙ v);
-      met = rw c.then_some.ensures (met_by _ _ _ _ _ c.find-handle.ensures.at c.is_there.ensures);
+      looping = λ n a x q d y w z v. loops_own _ _ _ _ _ _ _ _ _ c.loops-looped.ensures n a x q d y w z
+          ((c.find-handle.ensures p.recs.now).at ∙ v);
+      met = rw c.then_some.ensures (met_by _ _ _ _ _ (c.find-handle.ensures p.recs.now).at (c.is_there.ensures p.names.now p.heads.now
+          p.recs.now p.numbers.now));
     }

@@ -3,6 +3,7 @@ use mathlib.Core.Path.{refl, sym, ap, ◌∙◌}
 use mathlib.Core.List.{List}
 use Prim.Native.Nat.{ℕ}
 use lib.ListN.{length}
+use Rattle.pending_pass.specs.Places.Lent.{marked_table}
 use Rattle.event.specs.declared.Memory.{Memory}
 use Rattle.event.specs.Memory.{node_of}
 use Rattle.event.specs.Laws.Allowed.{allowed_err, allowed_refuses, allowed_zero}
@@ -10,14 +11,14 @@ use Rattle.coming.specs.Goes.{guard_says}
 use Rattle.coming.specs.Places.Found.{ask_found}
 use Rattle.coming.specs.Laws.Guard.{guard_holds}
 use Rattle.on_nack.specs.Laws.Goes.{goes_refused, goes_turns}
-use Rattle.pending_table.specs.Laws.Stays.{names_stayed}
 use Rattle.on_nack.proofs.nack.Goals as goal
 
-pub returns-in-Err-clause-goes : goal.returns-in-Err-clause-goes
+pub returns-in-Err : goal.returns-in-Err
 unfolding node_of
-returns-in-Err-clause-goes c r s =
+returns-in-Err c =
     let a = c.args in
-    let m : Memory = record { time = a.time; faces = a.faces; routes = r; pending = a.p.now; store = s; dead = a.nonces.now } in
+    λ r s.
+    let m : Memory = record { time = a.time; faces = a.faces; routes = r; pending = marked_table a.p; store = s; dead = a.nonces.now } in
     let n = node_of m in
     let e = sym c.guard.ensures ∙ c.in-Err.is in
     let y = allowed_err _ _ e in
@@ -30,15 +31,13 @@ take-requires c =
     let g = guard_holds _ _ _ _ c.find_name-name.ensures _ refl (allowed_zero _ _ (sym c.guard.ensures ∙ c.in_default.is)) in
     record { name_fits = g.short; buffer_fits = g.roomy }
 
-pub returns-clause-goes : goal.returns-clause-goes
+pub returns : goal.returns
 unfolding node_of ask_found
-returns-clause-goes c r s =
+returns c =
     let a = c.args in
-    let m : Memory = record { time = a.time; faces = a.faces; routes = r; pending = a.p.now; store = s; dead = a.nonces.now } in
+    λ r s.
+    let m : Memory = record { time = a.time; faces = a.faces; routes = r; pending = marked_table a.p; store = s; dead = a.nonces.now } in
     goes_turns _ a.made _ _ _ _ _ (node_of m) _
     (ap (λ (l : List ℕ). guard_says a.time (length a.out.now) (length a.bare.now) (length l)) c.find_name-name.ensures)
     _ _ (allowed_zero _ _ (sym c.guard.ensures ∙ c.in_default.is))
-    (c.take.ensures.goes r s (ask_found a.bare.now a.i) (sym c.find_name-name.ensures) refl refl refl)
-
-pub returns-in-Err-clause-names : goal.returns-in-Err-clause-names
-returns-in-Err-clause-names c = names_stayed _
+    (c.take.ensures r s (ask_found a.bare.now a.i) (sym c.find_name-name.ensures) refl refl refl)

@@ -1,15 +1,25 @@
--- The event of a command that changes the routes alone.
-use borrow.Author.Rules.{rules}
-use Rattle.rules.specs.Node as rule
+-- Refused where it begins, or on from the aged node by what the command makes of it.
+use mathlib.Core.Path.{refl}
 use Rattle.event.specs.Memory.{node_of}
+use Rattle.event.specs.Places.Begins.{began}
+use Rattle.event.specs.Laws.Comes.{comes_is, step_refused, step_on}
+use Rattle.on_route.specs.Laws.Comes.{comes_routes}
 use Rattle.on_route.specs.Laws.Faces.{add_bad}
 use Rattle.on_route.proofs.add_hop.Goals as goal
 
-pub returns-clause-stepped : goal.returns-clause-stepped
-unfolding node_of
-returns-clause-stepped c s =
-    c.turning.ensures.stepped _ s (rule.add_hop c.args.face c.args.cost c.args.prefix.now) (add_bad _ _ _ c.is_not_open-bad.ensures _ _)
-    (λ t r t' q. search rules)
+pub returns-in-Err : goal.returns-in-Err
+unfolding began node_of
+returns-in-Err c =
+    λ s.
+    comes_is _ _ _ _ _ _ _ c.quiet.ensures
+    (step_refused _ _ _ _ _ _ _ _ _ _ (add_bad _ _ _ c.is_not_open-bad.ensures _ _) (c.in-Err.ensures.begun _ _ s)
+    c.in-Err.ensures.refused)
 
-pub returns-clause-prefixes : goal.returns-clause-prefixes
-returns-clause-prefixes c = c.turning.ensures.prefixes (λ t r t' q. search rules)
+pub returns-in-Ok : goal.returns-in-Ok
+unfolding began node_of
+returns-in-Ok c =
+    λ s.
+    step_on _ _ _ _ _ _ _ _ _ _ (add_bad _ _ _ c.is_not_open-bad.ensures _ _)
+    (c.in-Ok.ensures.begun _ _ s) _ _ _ refl
+    (λ _. comes_routes _ _ _ _ _ _ _ _ _ c.adding_hop-then.ensures (rw c.err.ensures.value at c.unwrap_or.ensures)
+    c.quiet-in-Ok.ensures)

@@ -8,6 +8,7 @@ use Rattle.laws.specs.Laws.Digits.{lowest}
 use Rattle.sizes.specs.Sizes.{most_faces, most_entries}
 use Rattle.pending_order.specs.Laws.Choose.{choosing_start, choosing_turn, choosing_end}
 use Rattle.pending_table.specs.Places.View.{state, row_at, marks_where}
+use Rattle.pending_table.specs.Places.Parts.{seen}
 use Rattle.pending_handle.specs.Operations.{is_due}
 use Rattle.pending_handle.proofs.overdue_entries.Goals as goal
 
@@ -19,7 +20,7 @@ loop-row-init c =
 pub loop-row-preserved : goal.loop-row-preserved
 unfolding row_at
 loop-row-preserved c =
-    let p = c.args.p.now in
+    let p = seen c.args.t in
     let l = c.loop-row in
     let q : (ℕ → Bool) = (λ i. is_due c.args.time (row_at most_faces p.names p.heads p.recs i)) in
     let g = c.in-Some.ensures.steps in
@@ -30,7 +31,7 @@ loop-row-preserved c =
 
 pub returns : goal.returns
 returns c =
-    let p = c.args.p.now in
+    let p = seen c.args.t in
     let l = c.loop-row in
     let q : (ℕ → Bool) = (λ i. is_due c.args.time (row_at most_faces p.names p.heads p.recs i)) in
     marks_where most_faces p.names p.heads p.recs p.numbers (state p) _ (is_due c.args.time)

@@ -9,13 +9,19 @@ use Rattle.pending_pass.specs.Laws.Asked.{rows_few}
 use Rattle.pending_pass.proofs.age.Goals as goal
 
 pub pass-requires-clause-turns : goal.pass-requires-clause-turns
-pass-requires-clause-turns c = (ageing_work (fingerprint c.args.start) c.args.time, λ p h d r k n p' d' r' z e q. search rules)
+pass-requires-clause-turns c =
+    let a = c.args in (
+      ageing_work (fingerprint a.start) a.time,
+      a.t.names.now,
+      λ x. x,
+      a.t.recs.now,
+      λ s u h d r k n s' u' d' r' z e q. search rules,
+    )
 
-pub returns-clause-ages : goal.returns-clause-ages
-returns-clause-ages c =
+pub returns : goal.returns
+returns c =
+    let a = c.args in
     pass_ages _ _ _ _ _ 0 _ _ _ _ _ c.overdue_entries-chosen.ensures
-    (c.pass.ensures.passes (ageing_work (fingerprint c.args.start) c.args.time) (λ p h d r k n p' d' r' z e q. search rules))
+    (c.pass.ensures (ageing_work (fingerprint a.start) a.time) a.t.names.now (λ x. x) a.t.recs.now
+    (λ s u h d r k n s' u' d' r' z e q. search rules))
     (rows_few _ _ (λ i e p. (view_wide most_faces _ _ _ _ _ i e p).0) (view_most most_faces _ _ _ _ _))
-
-pub returns-clause-records : goal.returns-clause-records
-returns-clause-records c = c.pass.ensures.records (λ p h d r k n p' d' r' z. search rules)

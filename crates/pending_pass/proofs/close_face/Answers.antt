@@ -7,12 +7,18 @@ use Rattle.pending_pass.proofs.close_face.Goals as goal
 
 pub pass-requires-clause-turns : goal.pass-requires-clause-turns
 pass-requires-clause-turns c =
-    (closing_work (fingerprint c.args.start) c.args.time c.args.face, λ p h d r k n p' d' r' z e q. search rules)
+    let a = c.args in (
+      closing_work (fingerprint a.start) a.time a.face,
+      a.t.names.now,
+      λ x. x,
+      a.t.recs.now,
+      λ s u h d r k n s' u' d' r' z e q. search rules,
+    )
 
-pub returns-clause-closes : goal.returns-clause-closes
-returns-clause-closes c =
-    pass_closes _ _ _ _ _ _ _ _ _ _ _ _ c.all-chosen.ensures
-    (c.pass.ensures.passes (closing_work (fingerprint c.args.start) c.args.time c.args.face) (λ p h d r k n p' d' r' z e q. search rules))
-
-pub returns-clause-records : goal.returns-clause-records
-returns-clause-records c = c.pass.ensures.records (λ p h d r k n p' d' r' z. search rules)
+pub returns : goal.returns
+returns c =
+    let a = c.args in
+    let t = a.t in
+    pass_closes _ _ _ _ _ _ _ _ _ _ _ _ (c.all-chosen.ensures t.names.now t.heads.now t.recs.now t.numbers.now)
+    (c.pass.ensures (closing_work (fingerprint a.start) a.time a.face) t.names.now (λ x. x) t.recs.now
+    (λ s u h d r k n s' u' d' r' z e q. search rules))

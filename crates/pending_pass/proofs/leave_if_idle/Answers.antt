@@ -1,43 +1,13 @@
--- Each return is one law over what the calls before it ensure: the entry is buried and taken out, or it stays. A handle that has an entry
--- has a place among them, and a handle that has none has not.
-use mathlib.Core.Path.{refl, sym, ◌∙◌}
-use Rattle.std.proofs.Common.{ltb-true, lt-ltb}
-use Rattle.std.proofs.Math.Option.{none-ne-some}
-use Rattle.std.proofs.Math.Bool.{true≢false}
-use Rattle.names.specs.Fingerprint.{fingerprint}
-use Rattle.records.specs.Laws.Place.{place_some, place_lt}
-use Rattle.pending_table.specs.Laws.Stays.{rows_stayed}
-use Rattle.pending_pass.specs.Laws.Turn.{leaves_not, leaves_out}
+-- The used rows are those that are left.
+use mathlib.Core.Path.{ap}
+use Rattle.pending_table.specs.Places.Parts.{table}
 use Rattle.pending_pass.proofs.leave_if_idle.Goals as goal
 
-pub returns-then-is_idle-clause-rows : goal.returns-then-is_idle-clause-rows
-returns-then-is_idle-clause-rows c = c.take_out.ensures.rows
+pub returns-clause-leaves : goal.returns-clause-leaves
+returns-clause-leaves c = c.used_after.ensures.leaves
 
-pub returns-then-is_idle-clause-leaves : goal.returns-then-is_idle-clause-leaves
-returns-then-is_idle-clause-leaves c =
-    let a = c.args in
-    λ e p.
-    leaves_out (fingerprint a.start) a.time _ _ _ _ e p _ c.is_idle.ensures c.if-is_idle.true
-    _ c.bury.ensures _ c.take_out.ensures.taken.left _ c.take_out.ensures.taken.chosen
-
-pub returns-then-is_idle-clause-absent : goal.returns-then-is_idle-clause-absent
-returns-then-is_idle-clause-absent c =
-    let there = place_some _ _ (ltb-true _ _ (sym c.is_there.ensures ∙ c.if-is_there.true)) in
-    λ q. absurd (none-ne-some there.0 (sym q ∙ there.1))
-
-pub returns-else-is_idle : goal.returns-else-is_idle
-returns-else-is_idle c =
-    let a = c.args in
-    record {
-      leaves = λ e p.
-          leaves_not (fingerprint a.start) a.time _ _ _ _ e p _ c.is_idle.ensures c.if-is_idle.false;
-      absent = λ _. (refl, refl);
-      rows = rows_stayed _;
-    }
-
-pub returns-else-is_there : goal.returns-else-is_there
-returns-else-is_there c = record {
-  leaves = λ e p. absurd (true≢false (sym (lt-ltb _ _ (place_lt _ _ e p)) ∙ sym c.is_there.ensures ∙ c.if-is_there.false));
-  absent = λ _. (refl, refl);
-  rows = rows_stayed _;
-}
+pub returns-clause-absent : goal.returns-clause-absent
+returns-clause-absent c =
+    let t = c.args.t in
+    λ q. let a = c.used_after.ensures.absent q in
+    (ap (λ u. table t.names.now t.heads.now t.recs.now t.numbers.now u) a.0, a.1)

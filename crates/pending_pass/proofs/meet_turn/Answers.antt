@@ -6,14 +6,13 @@ use Rattle.pending_table.specs.Places.View.{view_wide}
 use Rattle.pending_pass.specs.Laws.Turn.{turn_met}
 use Rattle.pending_pass.proofs.meet_turn.Goals as goal
 
-pub returns-clause-turned : goal.returns-clause-turned
+pub returns : goal.returns
 unfolding fate_in
-returns-clause-turned c =
+returns c =
     let a = c.args in
+    let t = a.t in
+    let out = c.take_out.ensures t.names.now t.heads.now t.recs.now t.numbers.now in
     λ e p.
     turn_met most_faces (fingerprint a.start) a.time _ _ _ _ _ _ a.made _ e p (view_wide most_faces _ _ _ _ _ _ e p).0 _
     c.asking_faces-asked.ensures a.face a.adhoc _ c.self_met-met.ensures (c.note_by_face-noted.ensures a.time) _ c.bury.ensures
-    _ c.take_out.ensures.taken.left _ c.take_out.ensures.taken.chosen
-
-pub returns-clause-rows : goal.returns-clause-rows
-returns-clause-rows c = c.take_out.ensures.rows
+    _ out.left _ out.chosen

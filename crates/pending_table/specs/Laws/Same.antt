@@ -2,7 +2,7 @@
 -- entries, have the same answers, entries, places and marks.
 -- Assumes nothing.
 use Rattle.std.specs.Prelude.{ℕ, ◌<◌, ◌≡◌, Bool, List, length, ltb}
-use Rattle.std.proofs.Common.{sym, ◌∙◌}
+use Rattle.std.proofs.Common.{sym, refl, ◌∙◌}
 use Rattle.laws.specs.Lists.{index_of}
 use Rattle.records.specs.Class.{class_of}
 use Rattle.records.specs.Slots.{given, at_place}
@@ -12,6 +12,7 @@ use Rattle.pending_table.specs.declared.Handle.{Handle}
 use Rattle.pending_table.specs.declared.Chosen.{Chosen}
 use Rattle.pending_table.specs.declared.Pending.{Pending}
 use Rattle.pending_table.specs.Places.View.{place_of, Stands}
+use Rattle.pending_table.specs.Places.Parts.{table}
 use Rattle.pending_table.specs.Operations.{Finds, Opens, TakesOut}
 
 -- two handles that are found are the same
@@ -81,6 +82,16 @@ stands_one a b = record {
   handles = λ i. b.handles i ∙ sym (a.handles i);
   choices = λ c. b.choices c ∙ sym (a.choices c);
   rows = λ h. b.rows h ∙ sym (a.rows h);
+}
+
+-- two tables with the same numbers and the same used rows
+pub stands_parts : (n m hs gs : List (List ℕ)) (u v : List (List (List ℕ))) (k : List ℕ) (s : ℕ)
+    → Stands (table n hs u k s) (table m gs v k s)
+stands_parts n m hs gs u v k s = record {
+  places = λ h. refl;
+  handles = λ i. refl;
+  choices = λ c. refl;
+  rows = λ h. refl;
 }
 
 -- two tables changed in the entries alone, and two handles that stood at one place

@@ -5,7 +5,7 @@ use Rattle.std.specs.Prelude.{◌≡◌, Bool, ◌&&◌, ◌≢◌}
 use Rattle.std.proofs.Math.Path.{refl, sym}
 use Rattle.std.proofs.Common.{◌∙◌, arith, add-one}
 use Rattle.std.proofs.Math.Bool.{true, false}
-use mathlib.Core.List.{List, ◌∷◌}
+use mathlib.Core.List.{List, [], ◌∷◌}
 use Rattle.std.proofs.Math.Option.{Option, none, some}
 use Rattle.std.proofs.Math.ListN.{get_or}
 use Rattle.laws.specs.Pick.{pick}
@@ -20,37 +20,39 @@ use Rattle.records.specs.Face.{is_face}
 use Rattle.records.specs.Slots.{given, slot, is_some, held, held_from, only, least_face}
 use Rattle.records.specs.Route.{with_hop, cheapest_of}
 use Rattle.routes.specs.declared.Row.{Row}
-use Rattle.routes.specs.Places.View.{route_row}
+use Rattle.routes.specs.declared.Routes.{Routes}
+use Rattle.routes.specs.Places.View.{route_row, route_at, no_row}
 use Rattle.routes.specs.Operations.{hops_of}
 use Rattle.routes.specs.Places.Hop.{least_of}
 
-module _ (n f : ℕ) (r : Row) where
+module _ (n f : ℕ) (name : List ℕ) (r : Row) (old : List ℕ) where
   -- a hop put in, or its cost changed
   pub row_put : (cost : ℕ) (costs : List ℕ) → is_face n f ≡ true → get_or costs (f - 1) 0 ≡ cost
-      → ((i : ℕ) → i ≢ f - 1 → get_or costs i 0 ≡ get_or r.costs i 0)
-      → route_row n (record r { hops = with_face n r.hops f; costs = costs }) ≡ with_hop f (some cost) (route_row n r)
+      → ((i : ℕ) → i ≢ f - 1 → get_or costs i 0 ≡ get_or old i 0)
+      → route_row n name (record r { hops = with_face n r.hops f }) costs ≡ with_hop f (some cost) (route_row n name r old)
   unfolding route_row with_hop
-  row_put cost costs q e o = rw (slots_put n r.hops (λ i. get_or r.costs i 0) f cost (λ i. get_or costs i 0) q e o)
+  row_put cost costs q e o = rw (slots_put n r.hops (λ i. get_or old i 0) f cost (λ i. get_or costs i 0) q e o)
 
   -- a hop taken out; a number that is no face takes none out
-  pub row_take : route_row n (record r { hops = minus_face n r.hops f }) ≡ with_hop f none (route_row n r)
+  pub row_take : route_row n name (record r { hops = minus_face n r.hops f }) old ≡ with_hop f none (route_row n name r old)
   unfolding route_row with_hop
-  row_take = rw (slots_minus n r.hops (λ i. get_or r.costs i 0) f)
-
-  -- a number that is no face sets no hop
-  pub row_past : (x : Option ℕ) → is_face n f ≡ false → route_row n r ≡ with_hop f x (route_row n r)
-  unfolding route_row with_hop
-  row_past x e = rw (slots_past n r.hops (λ i. get_or r.costs i 0) f x e)
+  row_take = rw (slots_minus n r.hops (λ i. get_or old i 0) f)
 
   -- whether a face is in the set of hops
-  pub row_has : has_face n r.hops f ≡ is_some (slot f (route_row n r).hops)
+  pub row_has : has_face n r.hops f ≡ is_some (slot f (route_row n name r old).hops)
   unfolding route_row
-  row_has = sym (slots_has n r.hops (λ i. get_or r.costs i 0) f)
+  row_has = sym (slots_has n r.hops (λ i. get_or old i 0) f)
+
+-- a number that is no face sets no hop
+pub past_hop : (n f : ℕ) (t : Routes) (x : Option ℕ) (i : ℕ) → is_face n f ≡ false → route_at n t i ≡ with_hop f x (route_at n t i)
+unfolding route_at route_row with_hop
+past_hop n f t x i e = rw (slots_past n (get_or t.rows i no_row).hops (λ k. get_or (get_or t.costs i []) k 0) f x e)
 
 -- the set of the hops is what the faces of the row's set are
-pub row_hops : (n : ℕ) (r : Row) → hops_of n (route_row n r) ≡ faces_where n (has_face n r.hops)
+pub row_hops : (n : ℕ) (name : List ℕ) (r : Row) (costs : List ℕ)
+    → hops_of n (route_row n name r costs) ≡ faces_where n (has_face n r.hops)
 unfolding route_row hops_of
-row_hops n r = slots_set n r.hops (λ i. get_or r.costs i 0) ∙ sym (where_mod n r.hops)
+row_hops n name r costs = slots_set n r.hops (λ i. get_or costs i 0) ∙ sym (where_mod n r.hops)
 
 module _ (g : ℕ → ℕ) (s t : ℕ) (q : ℕ → Bool) where
   -- those held that q holds of, from place i on, are held by the set of them
@@ -73,13 +75,13 @@ module _ (g : ℕ → ℕ) (s t : ℕ) (q : ℕ → Bool) where
       go false b l k f r = r
 
 -- the cheapest hop in a set is the least of the faces in both sets
-pub row_cheapest : (n set : ℕ) (r : Row)
-    → cheapest_of (has_face n set) (route_row n r)
-    ≡ given none (λ h. some h.face) (least_of n (λ i. get_or r.costs i 0) (faces_where n (λ f. has_face n r.hops f && has_face n set f)))
+pub row_cheapest : (n set : ℕ) (name : List ℕ) (r : Row) (costs : List ℕ)
+    → cheapest_of (has_face n set) (route_row n name r costs)
+    ≡ given none (λ h. some h.face) (least_of n (λ i. get_or costs i 0) (faces_where n (λ f. has_face n r.hops f && has_face n set f)))
 unfolding cheapest_of least_face route_row least_of held slots_of
-row_cheapest n set r =
+row_cheapest n set name r costs =
     let both : (ℕ → Bool) = (λ f. has_face n r.hops f && has_face n set f) in
-    rw (only_from (λ i. get_or r.costs i 0) r.hops (faces_where n both) (has_face n set) 0 n
+    rw (only_from (λ i. get_or costs i 0) r.hops (faces_where n both) (has_face n set) 0 n
     (λ k _ l.
     sym (has_after n (faces_where n both) k (omega arith))
     ∙ where_has n (k + 1) both ((face_yes n (k + 1)).1 (omega arith, omega arith))

@@ -54,17 +54,18 @@ module _ (n : ℕ) (p : List ℕ) (c : Class) (before after : List Route) (r : B
     set_full b = set_refused (rw (le-ltb (length before) most_routes b) (and-false (leb (length p) most_name)))
 
 -- the class word changed in its row
-pub row_class : (n w : ℕ) (r : Row) → route_row n (record r { class = w }) ≡ with_class (class_of w) (route_row n r)
+pub row_class : (n w : ℕ) (name : List ℕ) (r : Row) (costs : List ℕ)
+    → route_row n name (record r { class = w }) costs ≡ with_class (class_of w) (route_row n name r costs)
 unfolding route_row with_class
-row_class n w r = refl
+row_class n w name r costs = refl
 
 -- the class word of a route is that of its row
-pub row_word : (n : ℕ) (r : Row) → class_word (route_row n r) ≡ r.class
+pub row_word : (n : ℕ) (name : List ℕ) (r : Row) (costs : List ℕ) → class_word (route_row n name r costs) ≡ r.class
 unfolding route_row class_word
-row_word n r = class_number_lem r.class
+row_word n name r costs = class_number_lem r.class
 
 -- the row of a new route: no face is in its set, whatever the costs
 pub row_new : (n w : ℕ) (p name costs : List ℕ) → take (length p) name ≡ p
-    → route_row n (record { name = name; len = length p; class = w; hops = 0; costs = costs }) ≡ new_route n p (class_of w)
+    → route_row n name (record { len = length p; class = w; hops = 0 }) costs ≡ new_route n p (class_of w)
 unfolding route_row new_route
 row_new n w p name costs e = rw (e, slots_none n 0 (λ i. get_or costs i 0) (λ i _. (member_no i 0).1 (digit_zero i)))

@@ -12,5 +12,6 @@ pub returns : goal.returns
 unfolding given
 returns c =
     let a = c.args in
-    let k : MatchOption c.row.result (c.map_or.result ≡ 0) (λ r. c.map_or.result ≡ r.now.class) = search rules in
-    answer_found (given 0 class_word) (λ r. r.class) c.row.result _ c.map_or.result (λ r. sym (row_word most_faces r)) c.row.ensures k
+    let k : MatchOption c.row_of.result (c.map_or.result ≡ 0) (λ r. c.map_or.result ≡ r.now.class) = search rules in
+    answer_found (given 0 class_word) (λ r. r.class) _ _ c.row_of.result _ c.map_or.result (λ r. sym (row_word most_faces _ r _))
+    (c.row_of.ensures _ _) k

@@ -14,5 +14,6 @@ pub returns : goal.returns
 unfolding given
 returns c =
     let g : Row → ℕ = λ r. faces_where most_faces (has_face most_faces r.hops) in
-    let k : MatchOption c.row.result (c.map_or.result ≡ 0) (λ r. c.map_or.result ≡ g r.now) = search rules in
-    answer_found (given 0 (hops_of most_faces)) g c.row.result _ c.map_or.result (λ r. sym (row_hops most_faces r)) c.row.ensures k
+    let k : MatchOption c.row_of.result (c.map_or.result ≡ 0) (λ r. c.map_or.result ≡ g r.now) = search rules in
+    answer_found (given 0 (hops_of most_faces)) g _ _ c.row_of.result _ c.map_or.result (λ r. sym (row_hops most_faces _ r _))
+    (c.row_of.ensures _ _) k

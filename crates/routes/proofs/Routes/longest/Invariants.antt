@@ -8,5 +8,5 @@ use Rattle.routes.proofs.Routes.longest.Given as goal
 
 abbrev pub invariant-loop-i : goal.invariant-loop-i
 invariant-loop-i l =
-    Best l.name (view l.self) l.i (place_or (min l.self.count most_routes) l.best) l.most
-    × MatchOption l.best (Unit {0}) (λ h. h.at < min l.self.count most_routes)
+    Best l.name (view l.self) l.i (place_or (min l.self.count.count most_routes) l.best) l.most
+    × MatchOption l.best (Unit {0}) (λ h. h.at < min l.self.count.count most_routes)
