@@ -4,7 +4,7 @@
 -- Assumes nothing.
 use mathlib.Core.Path.{◌≡◌, refl}
 use contract.Lifetimes.{Lfts}
-use Rattle.std.specs.Borrow.{Bor, MutBor}
+use Rattle.std.specs.Borrow.{MutBor}
 use denote.Triple.Both.{Both}
 use denote.Triple.Clauses.{AtExit}
 use borrow.Fn.Kinds.{Dens, ended_of, res_t}
@@ -18,21 +18,18 @@ use Rattle.event.specs.Laws.Same.{Same}
 use Rattle.coming.specs.Laws.Goes.{after_same}
 use Rattle.arriving.specs.Coming.{comes_in}
 use Rattle.arriving.proofs.arrive.Kinds as arrive-kinds
+use Rattle.routes.specs.Places.Parts.{known_routes}
 use Rattle.arriving.proofs.arrive.Reads as arrive-reads
 
 -- what was lent behind `&mut`, from its two ends
 abbrev lent : {A : Type 0} → MutBor A → MutBor A → Lent A
 lent e x = record { entry = e.now; exit = x.now }
 
--- what was lent behind `&`, from its two ends
-abbrev shown : {A : Type 0} → Bor A → Bor A → Lent A
-shown e x = record { entry = e.now; exit = x.now }
-
 module _ (κs : Lfts 8) where
   -- the memory of what came in at entry and at exit
   abbrev pub arrive_memory : Dens κs arrive-kinds.ps → AtExit (ended_of 8 arrive-kinds.ps arrive-kinds.r) κs → Both Memory Memory
   arrive_memory a s =
-      memory (still a.0) (still a.1.0) (shown a.1.1.0 s.1.1.0) (lent a.1.1.1.0 s.1.1.1.0) (lent a.1.1.1.1.0 s.1.1.1.1.0)
+      memory (still a.0) (still a.1.0) (still (known_routes a.1.1.0)) (lent a.1.1.1.0 s.1.1.1.0) (lent a.1.1.1.1.0 s.1.1.1.1.0)
       (lent a.1.1.1.1.1.0 s.1.1.1.1.1.0)
 
   -- its output at entry and at exit

@@ -6,6 +6,7 @@ ghost use Rattle.rows.specs.Lent.{lent, shown};
 ghost use Rattle.event.specs.Memory.{memory, still, output};
 ghost use Rattle.coming.specs.Goes.{After};
 ghost use Rattle.arriving.specs.Coming.{comes_in};
+ghost use Rattle.routes.specs.Places.Parts.{known_routes};
 
 use coming::guard;
 use dead::Dead;
@@ -15,7 +16,7 @@ use happenings::Rows;
 use packets::{Packet, read_bare};
 use pending_pass::{Leaving, Marking};
 use pending_table::Pending;
-use routes::Routes;
+use routes::Known;
 use sending::Sends;
 use store::Store;
 
@@ -23,7 +24,7 @@ use store::Store;
 pub fn arrive(
     time: u64,
     faces: Faces,
-    known: &Routes,
+    known: Known,
     p: &mut Pending,
     stored: &mut Store,
     nonces: &mut Dead,
@@ -37,7 +38,7 @@ pub fn arrive(
     bare: &[u8],
 ) -> Came
     ensures { After (comes_in (length out.old) nacked marked bare.now face) made result
-        (memory (still time) (still faces) (shown known) (lent p) (lent stored) (lent nonces))
+        (memory (still time) (still faces) (still (known_routes known.entry)) (lent p) (lent stored) (lent nonces))
         (output (lent sends) (lent out) (lent rows)) }
 {
     // A name over its size is the reader's to refuse.

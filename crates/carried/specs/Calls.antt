@@ -10,8 +10,9 @@ use borrow.Fn.Kinds.{Dens, ended_of, res_t}
 use Rattle.rows.specs.Lent.{Lent}
 use Rattle.rules.specs.Node.{What, Event}
 use Rattle.rules.specs.Node as rules
-use Rattle.routes.specs.Places.Lent.{setting_lent, hopping_lent, dropping_lent}
-use Rattle.pending_pass.specs.Places.Lent.{ageing_lent}
+use Rattle.routes.specs.Lent.{setting_lent, hopping_lent, dropping_lent}
+use Rattle.routes.specs.Places.Parts.{known_routes}
+use Rattle.pending_pass.specs.Lent.{ageing_lent}
 use Rattle.event.specs.declared.Came.{Came}
 use Rattle.event.specs.declared.Memory.{Memory}
 use Rattle.faces.specs.declared.Faces.{Faces}
@@ -68,7 +69,7 @@ pub data Made : Call → Type 1 where
       → Made (record {
         time = a.1.1.1.1.1.1.1.1.1.0;
         what = rules.packet a.1.1.1.1.1.1.1.1.1.1.0 a.1.1.1.1.1.1.1.1.1.1.1.0.now;
-        memory = memory (lent a.0 s.0) (still a.1.0) (shown a.1.1.0 s.1.1.0) (lent a.1.1.1.0 s.1.1.1.0) (lent a.1.1.1.1.0 s.1.1.1.1.0)
+        memory = memory (lent a.0 s.0) (still a.1.0) (still (known_routes a.1.1.0)) (lent a.1.1.1.0 s.1.1.1.0) (lent a.1.1.1.1.0 s.1.1.1.1.0)
             (lent a.1.1.1.1.1.0 s.1.1.1.1.1.0);
         output = output (lent a.1.1.1.1.1.1.0 s.1.1.1.1.1.1.0) (lent a.1.1.1.1.1.1.1.0 s.1.1.1.1.1.1.1.0)
             (lent a.1.1.1.1.1.1.1.1.0 s.1.1.1.1.1.1.1.1.0);

@@ -1,11 +1,16 @@
 -- One outcome for each input of each public function: any two that its contract admits are equal, or have the same lines at exit and count
 -- as many. Where a ring's oldest line stands is not fixed.
 -- Assumes nothing.
+use Prim.Native.Nat.{ℕ}
+use mathlib.Core.List.{[]}
 use mathlib.Core.Path.{◌≡◌, refl, sym, ◌∙◌}
 use contract.Lifetimes.{Lfts}
 use denote.Triple.Clauses.{AtExit}
 use borrow.Fn.Kinds.{Dens, ended_of, res_t}
-use Rattle.dead.specs.Places.View.{line_count, view}
+use Rattle.dead.specs.Places.View.{line_count, view, count_is}
+use Rattle.dead.specs.declared.Dead.{Dead}
+use Rattle.dead.proofs.none.Kinds as none-kinds
+use Rattle.dead.proofs.none.Reads as none-reads
 use Rattle.dead.proofs.Dead.new.Kinds as new-kinds
 use Rattle.dead.proofs.Dead.new.Reads as new_reads
 use Rattle.dead.proofs.Dead.clear.Kinds as clear-kinds
@@ -15,6 +20,16 @@ use Rattle.dead.proofs.Dead.join.Reads as join-reads
 use Rattle.dead.proofs.Dead.is_dead.Kinds as is-dead-kinds
 use Rattle.dead.proofs.Dead.is_dead.Reads as is-dead-reads
 use Rattle.dead.proofs.Same.{join_same, is_dead_same}
+
+-- a ring that counts so many lines
+abbrev counting : ℕ → Dead
+counting n = record { lines = []; at = 0; count = n }
+
+-- two counts of no lines are the same
+pub none_one : (κs : Lfts 0) (a : Dens κs none-kinds.ps) (x y : (res_t none-kinds.r κs).Denot)
+    (s t : AtExit (ended_of 0 none-kinds.ps none-kinds.r) κs)
+    → none-reads.Post κs a x s → none-reads.Post κs a y t → x ≡ y
+none_one κs a x y s t p q = sym (count_is (counting x)) ∙ p.1 (counting x) refl ∙ sym (q.1 (counting y) refl) ∙ count_is (counting y)
 
 -- two new rings have the same lines, and count as many
 pub new_one : (κs : Lfts 0) (a b : Dens κs new-kinds.ps) (x y : (res_t new-kinds.r κs).Denot)

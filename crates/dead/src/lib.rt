@@ -6,6 +6,7 @@ ghost use Rattle.sizes.specs.Sizes.{most_dead};
 ghost use Rattle.records.specs.Line.{joined, counts, is_dead};
 ghost use Rattle.dead.specs.Places.View.{line, line_of, line_count, view};
 ghost use Rattle.dead.specs.Places.Stays.{LinesStay};
+ghost use Rattle.dead.specs.declared.Dead.{Dead};
 
 use sizes::DEAD;
 
@@ -19,7 +20,8 @@ pub struct Row {
     pub time: u64,
 }
 
-// The lines, where the oldest one stands, and how many there are: a count of 0 empties it. Nobody above reads its fields.
+// The lines, where the oldest one stands, and how many there are: a count of 0 empties it. Nobody above reads its fields but to
+// lend them.
 #[derive(Clone, Copy)]
 pub struct Dead {
     pub lines: [Row; DEAD],
@@ -34,6 +36,15 @@ impl Row {
     {
         self.print == print && (time < self.time || time - self.time < DEAD_TIME)
     }
+}
+
+// How many lines a list without any counts, whatever its lines hold and wherever the oldest stands.
+pub fn none() -> usize
+    ensures no_lines { (d : Dead) → d.count ≡ result → view d ≡ [] }
+    ensures none_counted { (d : Dead) → d.count ≡ result → line_count d ≡ 0 }
+{
+    // No line is counted.
+    0
 }
 
 impl Dead {

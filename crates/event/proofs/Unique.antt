@@ -13,16 +13,18 @@ use Rattle.answers.specs.declared.Answer.{Answer}
 use Rattle.answers.specs.Number.{number_of}
 use Rattle.rows.specs.Lent.{Lent}
 use Rattle.rules.specs.Node as rules
-use Rattle.pending_pass.specs.Places.Lent.{ageing_lent}
+use Rattle.pending_pass.specs.Lent.{ageing_lent}
 use Rattle.event.specs.declared.Memory.{Memory}
 use Rattle.faces.specs.declared.Faces.{Faces}
 use Rattle.routes.specs.declared.Routes.{Routes}
 use Rattle.store.specs.declared.Store.{Store}
-use Rattle.event.specs.Memory.{Output, output, memory, still, node_of}
+use Rattle.event.specs.Memory.{Output, output, memory, still, node_of, small_of}
 use Rattle.event.specs.Places.Begins.{began}
 use Rattle.event.specs.Laws.Same.{Same, stepped_same, begun_same}
 use Rattle.event.proofs.Memory.new.Kinds as new-kinds
 use Rattle.event.proofs.Memory.new.Reads as new_reads
+use Rattle.event.proofs.Small.none.Kinds as none-kinds
+use Rattle.event.proofs.Small.none.Reads as none-reads
 use Rattle.event.proofs.clear.Kinds as clear-kinds
 use Rattle.event.proofs.clear.Reads as clear_reads
 use Rattle.event.proofs.quiet.Kinds as quiet-kinds
@@ -39,6 +41,12 @@ pub new_one : (κs : Lfts 0) (a b : Dens κs new-kinds.ps) (x y : (res_t new-kin
     (s t : AtExit (ended_of 0 new-kinds.ps new-kinds.r) κs) → new_reads.Post κs a x s → new_reads.Post κs b y t
     → node_of x ≡ node_of y
 new_one κs a b x y s t p q = p ∙ sym q
+
+-- with two that are no rows of an empty node any two memories mean the same node
+pub none_one : (κs : Lfts 0) (a : Dens κs none-kinds.ps) (x y : (res_t none-kinds.r κs).Denot)
+    (s t : AtExit (ended_of 0 none-kinds.ps none-kinds.r) κs) → none-reads.Post κs a x s → none-reads.Post κs a y t
+    → (m n : Memory) → small_of m ≡ x → small_of n ≡ y → node_of m ≡ node_of n
+none_one κs a x y s t p q m n e d = p m e ∙ sym (q n d)
 
 -- two memories that are cleared mean the same node, whatever they held
 pub clear_one : (κs : Lfts 1) (a b : Dens κs clear-kinds.ps) (x y : (res_t clear-kinds.r κs).Denot)

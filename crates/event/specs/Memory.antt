@@ -15,6 +15,7 @@ use Rattle.pending_table.specs.declared.Pending.{Pending}
 use Rattle.store.specs.declared.Store.{Store}
 use Rattle.dead.specs.declared.Dead.{Dead}
 use Rattle.event.specs.declared.Memory.{Memory}
+use Rattle.event.specs.declared.Small.{Small}
 
 -- a table of rows
 abbrev pub Table : Type 0
@@ -53,4 +54,15 @@ node_of m = record {
   pending = pending.view m.pending;
   store = store.view m.store;
   dead = dead.view m.dead;
+}
+
+-- what of a memory is no row
+abbrev pub small_of : Memory → Small
+small_of m = record {
+  time = m.time;
+  faces = m.faces;
+  routes = m.routes.count;
+  pending = m.pending.used;
+  store = m.store.count;
+  dead = m.dead.count;
 }

@@ -9,10 +9,11 @@ ghost use Rattle.faces.specs.Places.View.{view};
 ghost use Rattle.faces.specs.declared.Faces.{Faces};
 ghost use Rattle.routes.specs.declared.Routes.{Routes};
 ghost use Rattle.store.specs.declared.Store.{Store};
-ghost use Rattle.pending_pass.specs.Places.Lent.{ageing_lent};
+ghost use Rattle.pending_pass.specs.Lent.{ageing_lent};
 ghost use Rattle.rules.specs.Node as rules;
 ghost use Rattle.rows.specs.Lent.{lent, shown};
-ghost use Rattle.event.specs.Memory.{node_of, memory, still, output};
+ghost use Rattle.event.specs.Memory.{node_of, small_of, memory, still, output};
+ghost use Rattle.event.specs.declared.Memory.{Memory};
 ghost use Rattle.event.specs.Comes.{Stepped, Begun};
 ghost use Rattle.event.specs.Stays.{RowsStay};
 ghost use Rattle.event.specs.Places.Begins.{allowed, refusal, began};
@@ -24,7 +25,7 @@ use happenings::Rows;
 use names::FNV_START;
 use pending_pass::{Ageing, age};
 use pending_table::Pending;
-use routes::Routes;
+use routes::{Count, Routes};
 use sending::Sends;
 use sizes::{LEAST_BUFFER, MOST_TIME};
 use store::Store;
@@ -40,12 +41,41 @@ pub struct Memory {
     pub dead: Dead,
 }
 
+// What of a memory is no row: the last accepted time, the faces, how many routes there are, the rows of the pending table that are used,
+// and how many Data and dead nonces there are.
+#[derive(Clone, Copy)]
+pub struct Small {
+    pub time: u64,
+    pub faces: Faces,
+    pub routes: Count,
+    pub pending: u64,
+    pub store: usize,
+    pub dead: usize,
+}
+
 // What an event comes to: the answer, how many sends there are, and how many happenings.
 #[derive(Clone, Copy, Debug, PartialEq, Eq)]
 pub struct Came {
     pub answer: Answer,
     pub sent: usize,
     pub made: usize,
+}
+
+impl Small {
+    // That of an empty node, whatever the rows of its memory hold.
+    pub fn none() -> Small
+        ensures { (m : Memory) → small_of m ≡ result → node_of m ≡ rules.empty_node most_faces }
+    {
+        let time = 0;
+        Small {
+            time,
+            faces: Faces::none(),
+            routes: Count::none(),
+            pending: pending_table::none(),
+            store: store::none(),
+            dead: dead::none(),
+        }
+    }
 }
 
 impl Memory {
@@ -126,7 +156,8 @@ pub fn begins(
     ensures begun { (f : Faces) (r : Routes) (s : Store) → Begun time bad (began result)
         (memory (lent last) (still f) (still r) (ageing_lent p) (still s) (lent nonces)) (output (shown sends) (shown out) (lent rows)) }
     ensures refused { IfErr result (λ a. number_of a ≢ 0) }
-    ensures kept { IfErr result (λ _. (last.new ≡ last.old) × ((ageing_lent p).exit ≡ (ageing_lent p).entry) × (nonces.new ≡ nonces.old)) }
+    ensures kept { IfErr result (λ _. (last.new ≡ last.old) × ((ageing_lent p).exit ≡ (ageing_lent p).entry)
+        × (nonces.new ≡ nonces.old)) }
 {
     check(*last, time, out.len(), bad)?;
     *last = time;

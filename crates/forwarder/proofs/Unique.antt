@@ -4,7 +4,7 @@
 -- Assumes nothing.
 use mathlib.Core.Path.{◌≡◌, refl}
 use contract.Lifetimes.{Lfts}
-use Rattle.std.specs.Borrow.{Bor, MutBor}
+use Rattle.std.specs.Borrow.{MutBor}
 use denote.Triple.Both.{Both}
 use denote.Triple.Clauses.{AtExit}
 use borrow.Fn.Kinds.{Dens, ended_of, res_t}
@@ -14,21 +14,18 @@ use Rattle.event.specs.declared.Memory.{Memory}
 use Rattle.event.specs.Memory.{Output, output, memory, still, node_of}
 use Rattle.event.specs.Laws.Same.{Same, stepped_same}
 use Rattle.forwarder.proofs.packet.Kinds as packet-kinds
+use Rattle.routes.specs.Places.Parts.{known_routes}
 use Rattle.forwarder.proofs.packet.Reads as packet-reads
 
 -- what was lent behind `&mut`, from its two ends
 abbrev lent : {A : Type 0} → MutBor A → MutBor A → Lent A
 lent e x = record { entry = e.now; exit = x.now }
 
--- what was lent behind `&`, from its two ends
-abbrev shown : {A : Type 0} → Bor A → Bor A → Lent A
-shown e x = record { entry = e.now; exit = x.now }
-
 module _ (κs : Lfts 9) where
   -- the memory of a packet at entry and at exit
   abbrev pub packet_memory : Dens κs packet-kinds.ps → AtExit (ended_of 9 packet-kinds.ps packet-kinds.r) κs → Both Memory Memory
   packet_memory a s =
-      memory (lent a.0 s.0) (still a.1.0) (shown a.1.1.0 s.1.1.0) (lent a.1.1.1.0 s.1.1.1.0) (lent a.1.1.1.1.0 s.1.1.1.1.0)
+      memory (lent a.0 s.0) (still a.1.0) (still (known_routes a.1.1.0)) (lent a.1.1.1.0 s.1.1.1.0) (lent a.1.1.1.1.0 s.1.1.1.1.0)
       (lent a.1.1.1.1.1.0 s.1.1.1.1.1.0)
 
   -- its output at entry and at exit

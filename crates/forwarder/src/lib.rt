@@ -8,6 +8,7 @@ ghost use Rattle.event.specs.Memory.{memory, still, output};
 ghost use Rattle.event.specs.Comes.{Stepped};
 ghost use Rattle.coming.specs.Goes.{After};
 ghost use Rattle.forwarder.specs.Places.Read.{read_in};
+ghost use Rattle.routes.specs.Places.Parts.{known_routes};
 
 use arriving::arrive;
 use dead::Dead;
@@ -17,7 +18,7 @@ use happenings::Rows;
 use packethead::read_header;
 use pending_pass::Ageing;
 use pending_table::Pending;
-use routes::Routes;
+use routes::Known;
 use sending::Sends;
 use store::Store;
 
@@ -25,7 +26,7 @@ use store::Store;
 fn read(
     time: u64,
     faces: Faces,
-    known: &Routes,
+    known: Known,
     p: &mut Pending,
     stored: &mut Store,
     nonces: &mut Dead,
@@ -37,7 +38,7 @@ fn read(
     bytes: &[u8],
 ) -> Came
     ensures { After (read_in (length out.old) face bytes.now) made result
-        (memory (still time) (still faces) (shown known) (lent p) (lent stored) (lent nonces))
+        (memory (still time) (still faces) (still (known_routes known.entry)) (lent p) (lent stored) (lent nonces))
         (output (lent sends) (lent out) (lent rows)) }
 {
     match read_header(bytes) {
@@ -56,7 +57,7 @@ fn read(
 pub fn packet(
     last: &mut u64,
     faces: Faces,
-    known: &Routes,
+    known: Known,
     p: &mut Pending,
     stored: &mut Store,
     nonces: &mut Dead,
@@ -68,7 +69,8 @@ pub fn packet(
     bytes: &[u8],
 ) -> Came
     ensures { Stepped time (rules.packet face bytes.now) result
-        (memory (lent last) (still faces) (shown known) (lent p) (lent stored) (lent nonces)) (output (lent sends) (lent out) (lent rows)) }
+        (memory (lent last) (still faces) (still (known_routes known.entry)) (lent p) (lent stored) (lent nonces))
+        (output (lent sends) (lent out) (lent rows)) }
 {
     let bad = is_not_open(faces, face);
     let aged = Ageing {

@@ -6,7 +6,7 @@ ghost use Rattle.sizes.specs.Sizes.{most_freshness};
 ghost use Rattle.packethead.specs.Name.{name_of};
 ghost use Rattle.rules.specs.Data.{data_step};
 ghost use Rattle.routes.specs.declared.Routes.{Routes};
-ghost use Rattle.pending_pass.specs.Places.Lent.{leaving_lent};
+ghost use Rattle.pending_pass.specs.Lent.{leaving_lent};
 ghost use Rattle.rows.specs.Lent.{lent};
 ghost use Rattle.event.specs.Memory.{memory, still, output};
 ghost use Rattle.coming.specs.Goes.{After, guarded};

@@ -10,8 +10,8 @@ use denote.Triple.Clauses.{AtExit}
 use borrow.Fn.Kinds.{Dens, ended_of, res_t}
 use Rattle.rows.specs.Lent.{Lent}
 use Rattle.rules.specs.Node as rules
-use Rattle.routes.specs.Places.Lent.{dropping_lent}
-use Rattle.pending_pass.specs.Places.Lent.{ageing_lent}
+use Rattle.routes.specs.Lent.{dropping_lent}
+use Rattle.pending_pass.specs.Lent.{ageing_lent}
 use Rattle.event.specs.declared.Memory.{Memory}
 use Rattle.routes.specs.declared.Routes.{Routes}
 use Rattle.store.specs.declared.Store.{Store}

@@ -11,8 +11,8 @@ ghost use Rattle.store.specs.declared.Store.{Store};
 ghost use Rattle.rows.specs.Lent.{lent, shown};
 ghost use Rattle.event.specs.Memory.{memory, still, output};
 ghost use Rattle.event.specs.Comes.{Stepped};
-ghost use Rattle.pending_pass.specs.Places.Lent.{ageing_lent};
-ghost use Rattle.routes.specs.Places.Lent.{dropping_lent};
+ghost use Rattle.pending_pass.specs.Lent.{ageing_lent};
+ghost use Rattle.routes.specs.Lent.{dropping_lent};
 ghost use Rattle.on_face.specs.Turns.{FacesBy, LinkFor};
 ghost use Rattle.event.specs.Places.Begins.{answer_of};
 

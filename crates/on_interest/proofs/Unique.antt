@@ -14,6 +14,7 @@ use Rattle.event.specs.Memory.{Output, output, memory, still, node_of}
 use Rattle.event.specs.Laws.Same.{Same}
 use Rattle.on_interest.specs.Laws.Same.{interest_on_same}
 use Rattle.on_interest.proofs.interest.Kinds as kinds
+use Rattle.routes.specs.Places.Parts.{known_routes}
 use Rattle.on_interest.proofs.interest.Reads as reads
 
 -- what was lent behind `&mut`, from its two ends
@@ -28,7 +29,7 @@ module _ (κs : Lfts 8) where
   -- the memory of an Interest at entry and at exit
   abbrev pub interest_memory : Dens κs kinds.ps → AtExit (ended_of 8 kinds.ps kinds.r) κs → Both Memory Memory
   interest_memory a s =
-      memory (still a.0) (still a.1.0) (shown a.1.1.0 s.1.1.0) (lent a.1.1.1.0 s.1.1.1.0) (lent a.1.1.1.1.0 s.1.1.1.1.0)
+      memory (still a.0) (still a.1.0) (still (known_routes a.1.1.0)) (lent a.1.1.1.0 s.1.1.1.0) (lent a.1.1.1.1.0 s.1.1.1.1.0)
       (shown a.1.1.1.1.1.0 s.1.1.1.1.1.0)
 
   -- its output at entry and at exit

@@ -31,6 +31,7 @@ ghost use Rattle.coming.specs.Goes.{After, guard_says, guarded};
 ghost use Rattle.coming.specs.Places.Found.{limit_of, arrival_found};
 ghost use Rattle.coming.specs.Places.Guarded.{Guarded};
 ghost use Rattle.on_interest.specs.Places.Sought.{checked, Sees};
+ghost use Rattle.routes.specs.Places.Parts.{known_routes};
 
 use answers::Answer;
 use coming::{guard, is_out_of_scope};
@@ -43,7 +44,7 @@ use opening::{refused, route};
 use packethead::find_name;
 use packets::{HopLimit, Interest};
 use pending_table::{Handle, Pending, Shown, facts_of, find, is_there};
-use routes::Routes;
+use routes::Known;
 use sending::{Sends, class_for, send_data, send_interest};
 use store::{Store, bytes_of};
 use ways::{expiry_of, is_zero, loops, next_hop};
@@ -60,7 +61,7 @@ struct Seen {
 
 // "a hit sends that Data back and opens nothing"
 fn serve(
-    known: &Routes,
+    known: Known,
     stored: &mut Store,
     sends: &mut Sends,
     out: &mut [u8],
@@ -70,10 +71,12 @@ fn serve(
 ) -> Came
     requires { least_buffer ≤ length out.old }
     ensures { (t : ℕ) (f : Faces) (p : Pending) (d : Dead) (rows : List (List ℕ)) (a : Arrival) (h : Hit) → a.face ≡ face
-        → h.place ≡ store.placed stored.old hit → store.found stored.old hit ≡ some h.what → After (λ n. served n a h) made result
-        (memory (still t) (still f) (shown known) (still p) (lent stored) (still d)) (output (lent sends) (lent out) (still rows)) }
+        → h.place ≡ store.placed stored.old hit → store.found stored.old hit ≡ some h.what
+        → After (λ n. served n a h) made result
+        (memory (still t) (still f) (still (known_routes known.entry)) (still p) (lent stored) (still d))
+        (output (lent sends) (lent out) (still rows)) }
 {
-    let bytes = bytes_of(&stored.rows, stored.count, hit);
+    let bytes = bytes_of(&stored.packets, &stored.rows, stored.count, hit);
     let class = class_for(known, find_name(bytes));
     let sent = send_data(sends, out, face, class, bytes);
     stored.touch(hit);
@@ -110,7 +113,7 @@ fn note_opening(
 fn ask_again(
     time: u64,
     faces: Faces,
-    known: &Routes,
+    known: Known,
     p: &mut Pending,
     sends: &mut Sends,
     out: &mut [u8],
@@ -125,7 +128,8 @@ fn ask_again(
     requires { Guarded time (length out.old) bare.now name.now }
     ensures { (s : Store) (d : Dead) (e : Entry) → pending.entry_at p.old h ≡ some e
         → After (λ n. asks_again n.time n (arrival_found face bare.now i) (pending.place_of p.old h) e) made result
-        (memory (still time) (still faces) (shown known) (lent p) (still s) (still d)) (output (lent sends) (lent out) (lent rows)) }
+        (memory (still time) (still faces) (still (known_routes known.entry)) (lent p) (still s) (still d))
+        (output (lent sends) (lent out) (lent rows)) }
 {
     let expiry = expiry_of(time, i.lifetime);
     let class = facts_of(&p.heads, p.used, h).class;
@@ -160,7 +164,7 @@ fn ask_again(
 fn ask_anew(
     time: u64,
     faces: Faces,
-    known: &Routes,
+    known: Known,
     p: &mut Pending,
     stored: &mut Store,
     sends: &mut Sends,
@@ -174,7 +178,8 @@ fn ask_anew(
 ) -> Came
     requires { Guarded time (length out.old) bare.now name.now }
     ensures { (d : Dead) → After (λ n. asks_entry n.time n (arrival_found face bare.now i) none) made result
-        (memory (still time) (still faces) (shown known) (lent p) (lent stored) (still d)) (output (lent sends) (lent out) (lent rows)) }
+        (memory (still time) (still faces) (still (known_routes known.entry)) (lent p) (lent stored) (still d))
+        (output (lent sends) (lent out) (lent rows)) }
 {
     match stored.look(name, i.can_be_prefix, i.must_be_fresh, time) {
         Some(hit) => serve(known, stored, sends, out, made, face, hit),
@@ -243,7 +248,7 @@ fn check(
 pub fn interest(
     time: u64,
     faces: Faces,
-    known: &Routes,
+    known: Known,
     p: &mut Pending,
     stored: &mut Store,
     nonces: &Dead,
@@ -257,7 +262,7 @@ pub fn interest(
 ) -> Came
     ensures { After (λ n. guarded (length out.old) (length bare.now) (length (name_of bare.now)) n
         (interest_step n.time n (arrival_found face bare.now i))) made result
-        (memory (still time) (still faces) (shown known) (lent p) (lent stored) (shown nonces))
+        (memory (still time) (still faces) (still (known_routes known.entry)) (lent p) (lent stored) (shown nonces))
         (output (lent sends) (lent out) (lent rows)) }
 {
     let name = find_name(bare);

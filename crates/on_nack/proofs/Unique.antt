@@ -9,7 +9,7 @@ use denote.Triple.Both.{Both}
 use denote.Triple.Clauses.{AtExit}
 use borrow.Fn.Kinds.{Dens, ended_of, res_t}
 use Rattle.rows.specs.Lent.{Lent}
-use Rattle.pending_pass.specs.Places.Lent.{marking_lent}
+use Rattle.pending_pass.specs.Lent.{marking_lent}
 use Rattle.event.specs.declared.Memory.{Memory}
 use Rattle.routes.specs.declared.Routes.{Routes}
 use Rattle.store.specs.declared.Store.{Store}

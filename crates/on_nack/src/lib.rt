@@ -14,7 +14,7 @@ ghost use Rattle.store.specs.declared.Store.{Store};
 ghost use Rattle.rows.specs.Lent.{lent};
 ghost use Rattle.pending_table.specs.Places.View.{place_of, entry_at};
 ghost use Rattle.pending_table.specs.Places.Parts.{seen};
-ghost use Rattle.pending_pass.specs.Places.Lent.{marking_lent};
+ghost use Rattle.pending_pass.specs.Lent.{marking_lent};
 ghost use Rattle.sending.specs.Places.Sheet.{PacksIn};
 ghost use Rattle.event.specs.Memory.{memory, still, output};
 ghost use Rattle.coming.specs.Goes.{After, guarded};
@@ -96,7 +96,8 @@ fn end_by_nack(
 ) -> Came
     requires name_fits { length name.now ≤ most_name }
     requires buffer_fits { least_buffer ≤ length out.old }
-    ensures { (r : Routes) (s : Store) (e : Entry) → entry_at (marking_lent p).entry h ≡ some e → is_known name.now prefix fresh e ≡ true
+    ensures { (r : Routes) (s : Store) (e : Entry) → entry_at (marking_lent p).entry h ≡ some e
+        → is_known name.now prefix fresh e ≡ true
         → reason ≡ smallest_reason (held e.sent)
         → After (λ n. ends_by_nack n.time n (place_of (marking_lent p).entry h) e) made result
         (memory (still time) (still faces) (still r) (marking_lent p) (still s) (lent nonces))
@@ -157,7 +158,8 @@ fn mark(
 ) -> Came
     requires name_fits { length name.now ≤ most_name }
     requires buffer_fits { least_buffer ≤ length out.old }
-    ensures { (r : Routes) (s : Store) (e : Entry) → entry_at (marking_lent p).entry h ≡ some e → is_known name.now prefix fresh e ≡ true
+    ensures { (r : Routes) (s : Store) (e : Entry) → entry_at (marking_lent p).entry h ≡ some e
+        → is_known name.now prefix fresh e ≡ true
         → After (λ n. nacked_entry n.time n (place_of (marking_lent p).entry h) (with_nack face reason e)) made result
         (memory (still time) (still faces) (still r) (marking_lent p) (still s) (lent nonces))
         (output (lent sends) (lent out) (lent rows)) }

@@ -9,8 +9,8 @@ use denote.Triple.Both.{Both}
 use denote.Triple.Clauses.{AtExit}
 use borrow.Fn.Kinds.{Dens, ended_of, res_t}
 use Rattle.rows.specs.Lent.{Lent}
-use Rattle.pending_pass.specs.Places.Lent.{ageing_lent}
-use Rattle.routes.specs.Places.Lent.{setting_lent, hopping_lent, dropping_lent}
+use Rattle.pending_pass.specs.Lent.{ageing_lent}
+use Rattle.routes.specs.Lent.{setting_lent, hopping_lent, dropping_lent}
 use Rattle.rules.specs.Node as rules
 use Rattle.event.specs.declared.Memory.{Memory}
 use Rattle.faces.specs.declared.Faces.{Faces}

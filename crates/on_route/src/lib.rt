@@ -6,12 +6,12 @@ ghost use Rattle.records.specs.Class.{class_of, is_class};
 ghost use Rattle.faces.specs.declared.Faces.{Faces};
 ghost use Rattle.store.specs.declared.Store.{Store};
 ghost use Rattle.routes.specs.Places.View.{view};
-ghost use Rattle.routes.specs.Places.Lent.{setting_lent, hopping_lent, dropping_lent};
+ghost use Rattle.routes.specs.Lent.{setting_lent, hopping_lent, dropping_lent};
 ghost use Rattle.rules.specs.Node as rules;
 ghost use Rattle.rows.specs.Lent.{lent, shown};
 ghost use Rattle.event.specs.Memory.{memory, still, output};
 ghost use Rattle.event.specs.Comes.{Stepped};
-ghost use Rattle.pending_pass.specs.Places.Lent.{ageing_lent};
+ghost use Rattle.pending_pass.specs.Lent.{ageing_lent};
 ghost use Rattle.event.specs.Places.Begins.{allowed, answer_of};
 ghost use Rattle.on_route.specs.Turns.{RoutesBy, prefix_says};
 

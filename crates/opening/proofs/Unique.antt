@@ -21,6 +21,7 @@ use Rattle.opening.specs.Laws.Same.{route_on_same}
 use Rattle.opening.proofs.refused.Kinds as refused-kinds
 use Rattle.opening.proofs.refused.Reads as refused-reads
 use Rattle.opening.proofs.route.Kinds as kinds
+use Rattle.routes.specs.Places.Parts.{known_routes}
 use Rattle.opening.proofs.route.Reads as reads
 
 -- what was lent behind `&mut`, from its two ends
@@ -41,7 +42,7 @@ refused_one κs a x y s t p q =
 module _ (κs : Lfts 7) where
   -- the memory of an Interest at entry and at exit, with any store and dead nonces
   abbrev pub route_memory : Dens κs kinds.ps → AtExit (ended_of 7 kinds.ps kinds.r) κs → Store → Dead → Both Memory Memory
-  route_memory a s k d = beside a.0 a.1.0 a.1.1.0.now (lent a.1.1.1.0 s.1.1.1.0) k d
+  route_memory a s k d = beside a.0 a.1.0 (known_routes a.1.1.0) (lent a.1.1.1.0 s.1.1.1.0) k d
 
   -- its output at entry and at exit
   abbrev pub route_output : Dens κs kinds.ps → AtExit (ended_of 7 kinds.ps kinds.r) κs → Both Output Output

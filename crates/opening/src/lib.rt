@@ -10,6 +10,7 @@ ghost use Rattle.faces.specs.Places.View.{view};
 ghost use Rattle.faces.specs.declared.Faces.{Faces};
 ghost use Rattle.dead.specs.declared.Dead.{Dead};
 ghost use Rattle.routes.specs.Places.View as routes;
+ghost use Rattle.routes.specs.Places.Parts.{known_routes};
 ghost use Rattle.routes.specs.declared.Routes.{Routes};
 ghost use Rattle.store.specs.declared.Store.{Store};
 ghost use Rattle.pending_table.specs.Places.View as pending;
@@ -31,8 +32,8 @@ use event::{Came, quiet};
 use faces::Faces;
 use happenings::{Fate, Rows, note_fate};
 use packets::Interest;
-use pending_table::Pending;
-use routes::Routes;
+use pending_table::{Pending, has_room};
+use routes::Known;
 use sending::{Sends, refuse, send_interest};
 use ways::{eligible, expiry_of};
 use writing::Request;
@@ -46,7 +47,7 @@ const NO_ROUTE: u8 = 150;
 // A refusal with its Nack.
 pub fn refused(
     faces: Faces,
-    known: &Routes,
+    known: Known,
     sends: &mut Sends,
     out: &mut [u8],
     made: usize,
@@ -59,7 +60,7 @@ pub fn refused(
     ensures answers { result ≡ record { answer = answer; sent = result.sent; made = made } }
     ensures packs { PacksIn (lent sends) (lent out) result.sent
         (if_room (nack_bytes reason name.now i.can_be_prefix i.must_be_fresh i.nonce) out.old
-        (nack_sends (view faces) (routes.view known.now) face reason name.now i.can_be_prefix i.must_be_fresh i.nonce)) }
+        (nack_sends (view faces) (routes.view (known_routes known.entry)) face reason name.now i.can_be_prefix i.must_be_fresh i.nonce)) }
 {
     let request = Request {
         name,
@@ -117,8 +118,9 @@ fn open(
 }
 
 // The class word of the longest matching route, and the cheapest next hop of it that is in a set of faces, if there is one.
-fn way(known: &Routes, name: &[u8], may: u64) -> Option<(u64, usize)>
-    ensures { (q : ℕ → Bool) → may ≡ faces_where most_faces q → Way q (longest name.now (routes.view known.now)) result }
+fn way(known: Known, name: &[u8], may: u64) -> Option<(u64, usize)>
+    ensures { (q : ℕ → Bool) → may ≡ faces_where most_faces q
+        → Way q (longest name.now (routes.view (known_routes known.entry))) result }
 {
     let best = known.longest(name)?;
     let to = known.cheapest(best, may)?;
@@ -129,7 +131,7 @@ fn way(known: &Routes, name: &[u8], may: u64) -> Option<(u64, usize)>
 pub fn route(
     time: u64,
     faces: Faces,
-    known: &Routes,
+    known: Known,
     p: &mut Pending,
     sends: &mut Sends,
     out: &mut [u8],
@@ -142,7 +144,7 @@ pub fn route(
 ) -> Came
     ensures { (s : Store) (d : Dead) → After (λ n. guarded (length out.old) (length bare.now) (length name.now) n
         (routed n.time n (arrival_named face name.now bare.now i) (longest name.now n.routes))) made result
-        (beside time faces known.now (lent p) s d) (output (lent sends) (lent out) (lent rows)) }
+        (beside time faces (known_routes known.entry) (lent p) s d) (output (lent sends) (lent out) (lent rows)) }
 {
     if let Err(answer) = guard(time, out.len(), bare.len(), name.len()) {
         return quiet(answer, made);
@@ -155,7 +157,7 @@ pub fn route(
             faces, known, sends, out, made, face, answer, NO_ROUTE, name, i,
         );
     };
-    if p.has_room(class) {
+    if has_room(&p.heads, p.used, class) {
         open(
             time, p, sends, out, rows, made, face, name, bare, i, class, to,
         )

@@ -9,7 +9,7 @@ use Rattle.dead.specs.Places.View as dead
 use Rattle.records.specs.Entry.{Entry}
 use Rattle.pending_table.specs.declared.Chosen.{Chosen}
 use Rattle.pending_table.specs.Places.View.{view, place_of, entry_at, marks_of}
-use Rattle.pending_pass.specs.Places.Lent.{ageing_in, ageing_out, leaving_in, leaving_out}
+use Rattle.pending_pass.specs.Lent.{ageing_in, ageing_out, leaving_in, leaving_out}
 use Rattle.pending_pass.specs.Laws.Same.{ages_same, closes_same, satisfies_same, leaves_same}
 use Rattle.pending_pass.proofs.leave_if_idle.Kinds as leave-kinds
 use Rattle.pending_pass.proofs.leave_if_idle.Reads as leave-reads

@@ -3,5 +3,6 @@ pub mod Lowest
 pub mod Satisfies
 pub mod Closes
 pub mod Asked
+pub mod Lent
 pub mod Places
 pub mod Laws

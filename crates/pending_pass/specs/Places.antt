@@ -2,4 +2,3 @@ pub mod Pass
 pub mod Works
 pub mod Lowering
 pub mod Turns
-pub mod Lent

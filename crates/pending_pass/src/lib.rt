@@ -18,7 +18,7 @@ ghost use Rattle.pending_pass.specs.Satisfies.{data_fate, Satisfies};
 ghost use Rattle.pending_pass.specs.Closes.{Closes};
 ghost use Rattle.pending_pass.specs.Places.Pass.{Work, marked, Turned, Leaves, Passes};
 ghost use Rattle.pending_pass.specs.Places.Turns.{Turns};
-ghost use Rattle.pending_pass.specs.Places.Lent.{using, ageing_in, ageing_out, leaving_in, leaving_out};
+ghost use Rattle.pending_pass.specs.Lent.{using, ageing_in, ageing_out, leaving_in, leaving_out};
 ghost use Rattle.pending_pass.specs.Places.Works.{ageing_work, satisfying_work, closing_work};
 ghost use Rattle.pending_pass.specs.Places.Lowering.{lower_word, Lowers, Lowest};
 

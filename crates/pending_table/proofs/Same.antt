@@ -41,10 +41,10 @@ use Rattle.pending_table.proofs.next.Kinds as next-kinds
 use Rattle.pending_table.proofs.next.Reads as next-reads
 use Rattle.pending_table.proofs.rest.Kinds as rest-kinds
 use Rattle.pending_table.proofs.rest.Reads as rest-reads
-use Rattle.pending_table.proofs.Pending.use_by_class.Kinds as use-by-class-kinds
-use Rattle.pending_table.proofs.Pending.use_by_class.Reads as use-by-class-reads
-use Rattle.pending_table.proofs.Pending.has_room.Kinds as has-room-kinds
-use Rattle.pending_table.proofs.Pending.has_room.Reads as has-room-reads
+use Rattle.pending_table.proofs.use_by_class.Kinds as use-by-class-kinds
+use Rattle.pending_table.proofs.use_by_class.Reads as use-by-class-reads
+use Rattle.pending_table.proofs.has_room.Kinds as has-room-kinds
+use Rattle.pending_table.proofs.has_room.Reads as has-room-reads
 
 -- whether there is room for an entry of a class
 abbrev room : List Entry → ℕ → Bool
@@ -162,15 +162,17 @@ rest_same κs a b x y s t v w e h p q = p v ∙ ap2 (λ (i : ℕ). on_at i (λ _
 -- how many entries each class has
 pub use_by_class_same : (κs : Lfts 1) (a b : Dens κs use-by-class-kinds.ps) (x y : (res_t use-by-class-kinds.r κs).Denot)
     (s t : AtExit (ended_of 1 use-by-class-kinds.ps use-by-class-kinds.r) κs)
-    → (view a.0.now ≡ view b.0.now)
+    (n m : List (List ℕ)) (u v : List (List (List ℕ))) (k l : List ℕ)
+    → (view (table n a.0.now u k a.1.0) ≡ view (table m b.0.now v l b.1.0))
     → use-by-class-reads.Post κs a x s → use-by-class-reads.Post κs b y t
     → x ≡ y
-use_by_class_same κs a b x y s t e p q = p ∙ ap uses_of e ∙ sym q
+use_by_class_same κs a b x y s t n m u v k l e p q = p n u k ∙ ap uses_of e ∙ sym (q m v l)
 
 -- whether there is room
 pub has_room_same : (κs : Lfts 1) (a b : Dens κs has-room-kinds.ps) (x y : (res_t has-room-kinds.r κs).Denot)
     (s t : AtExit (ended_of 1 has-room-kinds.ps has-room-kinds.r) κs)
-    → (view a.0.now ≡ view b.0.now) → (a.1.0 ≡ b.1.0)
+    (n m : List (List ℕ)) (u v : List (List (List ℕ))) (k l : List ℕ)
+    → (view (table n a.0.now u k a.1.0) ≡ view (table m b.0.now v l b.1.0)) → (a.1.1.0 ≡ b.1.1.0)
     → has-room-reads.Post κs a x s → has-room-reads.Post κs b y t
     → x ≡ y
-has_room_same κs a b x y s t e c p q = p ∙ ap2 room e c ∙ sym q
+has_room_same κs a b x y s t n m u v k l e c p q = p n u k ∙ ap2 room e c ∙ sym (q m v l)

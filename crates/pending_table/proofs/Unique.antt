@@ -19,6 +19,8 @@ use Rattle.pending_table.proofs.Pending.new.Kinds as new-kinds
 use Rattle.pending_table.proofs.Pending.new.Reads as new_reads
 use Rattle.pending_table.proofs.Pending.clear.Kinds as clear-kinds
 use Rattle.pending_table.proofs.Pending.clear.Reads as clear-reads
+use Rattle.pending_table.proofs.none.Kinds as none-kinds
+use Rattle.pending_table.proofs.none.Reads as none-reads
 use Rattle.pending_table.proofs.size.Kinds as size-kinds
 use Rattle.pending_table.proofs.size.Reads as size-reads
 use Rattle.pending_table.proofs.find.Kinds as find-kinds
@@ -43,10 +45,10 @@ use Rattle.pending_table.proofs.next.Kinds as next-kinds
 use Rattle.pending_table.proofs.next.Reads as next-reads
 use Rattle.pending_table.proofs.rest.Kinds as rest-kinds
 use Rattle.pending_table.proofs.rest.Reads as rest-reads
-use Rattle.pending_table.proofs.Pending.use_by_class.Kinds as use-by-class-kinds
-use Rattle.pending_table.proofs.Pending.use_by_class.Reads as use-by-class-reads
-use Rattle.pending_table.proofs.Pending.has_room.Kinds as has-room-kinds
-use Rattle.pending_table.proofs.Pending.has_room.Reads as has-room-reads
+use Rattle.pending_table.proofs.use_by_class.Kinds as use-by-class-kinds
+use Rattle.pending_table.proofs.use_by_class.Reads as use-by-class-reads
+use Rattle.pending_table.proofs.has_room.Kinds as has-room-kinds
+use Rattle.pending_table.proofs.has_room.Reads as has-room-reads
 
 -- two new tables have the same entries
 pub new_one : (κs : Lfts 0) (a b : Dens κs new-kinds.ps) (x y : (res_t new-kinds.r κs).Denot)
@@ -61,6 +63,13 @@ pub clear_one : (κs : Lfts 1) (a : Dens κs clear-kinds.ps) (x y : (res_t clear
     → clear-reads.Post κs a x s → clear-reads.Post κs a y t
     → view s.0.now ≡ view t.0.now
 clear_one κs a x y s t p q = p.0 ∙ sym q.0
+
+-- with two answers of the used rows of a table without entries any table has the same entries
+pub none_one : (κs : Lfts 0) (a : Dens κs none-kinds.ps) (x y : (res_t none-kinds.r κs).Denot)
+    (s t : AtExit (ended_of 0 none-kinds.ps none-kinds.r) κs)
+    → none-reads.Post κs a x s → none-reads.Post κs a y t
+    → (n hs : List (List ℕ)) (r : List (List (List ℕ))) (k : List ℕ) → view (table n hs r k x) ≡ view (table n hs r k y)
+none_one κs a x y s t p q n hs r k = p n hs r k ∙ sym (q n hs r k)
 
 -- two answers how many entries there are are the same
 pub size_one : (κs : Lfts 0) (a : Dens κs size-kinds.ps) (x y : (res_t size-kinds.r κs).Denot)
@@ -160,11 +169,11 @@ pub use_by_class_one : (κs : Lfts 1) (a : Dens κs use-by-class-kinds.ps) (x y 
     (s t : AtExit (ended_of 1 use-by-class-kinds.ps use-by-class-kinds.r) κs)
     → use-by-class-reads.Post κs a x s → use-by-class-reads.Post κs a y t
     → x ≡ y
-use_by_class_one κs a x y s t p q = p ∙ sym q
+use_by_class_one κs a x y s t p q = p [] [] [] ∙ sym (q [] [] [])
 
 -- two answers whether there is room are the same
 pub has_room_one : (κs : Lfts 1) (a : Dens κs has-room-kinds.ps) (x y : (res_t has-room-kinds.r κs).Denot)
     (s t : AtExit (ended_of 1 has-room-kinds.ps has-room-kinds.r) κs)
     → has-room-reads.Post κs a x s → has-room-reads.Post κs a y t
     → x ≡ y
-has_room_one κs a x y s t p q = p ∙ sym q
+has_room_one κs a x y s t p q = p [] [] [] ∙ sym (q [] [] [])

@@ -174,25 +174,34 @@ impl Pending {
     {
         self.used = 0;
     }
+}
 
-    // How many entries each class has.
-    pub fn use_by_class(&self) -> Uses
-        ensures { result ≡ uses_of (view self.now) }
-    {
-        let mut uses = Uses::default();
-        for row in RowWalk::of(self.used) {
-            uses = uses.counted(self.heads[row][CLASS]);
-        }
-        uses
-    }
+// The used rows of a table with no entries, whatever its rows hold.
+pub fn none() -> u64
+    ensures { (n hs : List (List ℕ)) (r : List (List (List ℕ))) (k : List ℕ) → view (table n hs r k result) ≡ [] }
+{
+    // No bit is set.
+    0
+}
 
-    // Whether there is room for one more entry of a class: the sum of the larger of reserve and use, counting it, does not exceed 64.
-    pub fn has_room(&self, class: u64) -> bool
-        ensures { result ≡ leb (room_taken (view self.now ++ (bare_entry most_faces [] false false (class_of class) ∷ [])))
-            most_entries }
-    {
-        self.use_by_class().counted(class).room_taken() <= ENTRIES as u64
+// How many entries each class has.
+pub fn use_by_class(heads: &Heads, used: u64) -> Uses
+    ensures { (n : List (List ℕ)) (r : List (List (List ℕ))) (k : List ℕ) → result ≡ uses_of (view (table n heads.now r k used)) }
+{
+    let mut uses = Uses::default();
+    for row in RowWalk::of(used) {
+        uses = uses.counted(heads[row][CLASS]);
     }
+    uses
+}
+
+// Whether there is room for one more entry of a class: the sum of the larger of reserve and use, counting it, does not exceed 64.
+pub fn has_room(heads: &Heads, used: u64, class: u64) -> bool
+    ensures { (n : List (List ℕ)) (r : List (List (List ℕ))) (k : List ℕ) → result
+        ≡ leb (room_taken (view (table n heads.now r k used) ++ (bare_entry most_faces [] false false (class_of class) ∷ [])))
+        most_entries }
+{
+    use_by_class(heads, used).counted(class).room_taken() <= ENTRIES as u64
 }
 
 // How many entries there are, in any table of these used rows.

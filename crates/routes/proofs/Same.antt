@@ -10,7 +10,7 @@ use denote.Triple.Clauses.{AtExit}
 use borrow.Fn.Kinds.{Dens, ended_of, res_t}
 use Rattle.routes.specs.declared.Count.{Count}
 use Rattle.routes.specs.declared.Routes.{Routes}
-use Rattle.routes.specs.Places.Parts.{table}
+use Rattle.routes.specs.Places.Parts.{table, known_routes}
 use Rattle.routes.specs.Places.View.{view, place, place_in, place_found, count_of}
 use Rattle.faces.specs.Laws.Found.{face_one}
 use Rattle.routes.proofs.Routes.clear.Kinds as clear-kinds
@@ -31,14 +31,14 @@ use Rattle.routes.proofs.has_hop.Kinds as has-hop-kinds
 use Rattle.routes.proofs.has_hop.Reads as has-hop-reads
 use Rattle.routes.proofs.drop_face.Kinds as drop-face-kinds
 use Rattle.routes.proofs.drop_face.Reads as drop-face-reads
-use Rattle.routes.proofs.Routes.longest.Kinds as longest-kinds
-use Rattle.routes.proofs.Routes.longest.Reads as longest-reads
-use Rattle.routes.proofs.Routes.class_of.Kinds as class-of-kinds
-use Rattle.routes.proofs.Routes.class_of.Reads as class-of-reads
-use Rattle.routes.proofs.Routes.hops_of.Kinds as hops-of-kinds
-use Rattle.routes.proofs.Routes.hops_of.Reads as hops-of-reads
-use Rattle.routes.proofs.Routes.cheapest.Kinds as cheapest-kinds
-use Rattle.routes.proofs.Routes.cheapest.Reads as cheapest-reads
+use Rattle.routes.proofs.Known.longest.Kinds as longest-kinds
+use Rattle.routes.proofs.Known.longest.Reads as longest-reads
+use Rattle.routes.proofs.Known.class_of.Kinds as class-of-kinds
+use Rattle.routes.proofs.Known.class_of.Reads as class-of-reads
+use Rattle.routes.proofs.Known.hops_of.Kinds as hops-of-kinds
+use Rattle.routes.proofs.Known.hops_of.Reads as hops-of-reads
+use Rattle.routes.proofs.Known.cheapest.Kinds as cheapest-kinds
+use Rattle.routes.proofs.Known.cheapest.Reads as cheapest-reads
 
 -- a table with no routes
 pub clear_same : (κs : Lfts 1) (a b : Dens κs clear-kinds.ps) (x y : (res_t clear-kinds.r κs).Denot)
@@ -137,17 +137,17 @@ drop_face_same κs a b x y s t n o c d j k v e0 p q = rw (v, e0) at (p n c j) �
 -- the longest matching route
 pub longest_same : (κs : Lfts 2) (a b : Dens κs longest-kinds.ps) (x y : (res_t longest-kinds.r κs).Denot)
     (s t : AtExit (ended_of 2 longest-kinds.ps longest-kinds.r) κs)
-    → view a.0.now ≡ view b.0.now
+    → view (known_routes a.0) ≡ view (known_routes b.0)
     → a.1.0.now ≡ b.1.0.now
     → longest-reads.Post κs a x s → longest-reads.Post κs b y t
-    → place_in a.0.now x ≡ place_in b.0.now y
-longest_same κs a b x y s t v e p q = rw (v, e) at (place_found a.0.now _ x p) ∙ sym (place_found b.0.now _ y q)
+    → place_in (known_routes a.0) x ≡ place_in (known_routes b.0) y
+longest_same κs a b x y s t v e p q = rw (v, e) at (place_found (known_routes a.0) _ x p) ∙ sym (place_found (known_routes b.0) _ y q)
 
 -- the class word of a route
 pub class_of_same : (κs : Lfts 1) (a b : Dens κs class-of-kinds.ps) (x y : (res_t class-of-kinds.r κs).Denot)
     (s t : AtExit (ended_of 1 class-of-kinds.ps class-of-kinds.r) κs)
-    → view a.0.now ≡ view b.0.now
-    → place a.0.now a.1.0 ≡ place b.0.now b.1.0
+    → view (known_routes a.0) ≡ view (known_routes b.0)
+    → place (known_routes a.0) a.1.0 ≡ place (known_routes b.0) b.1.0
     → class-of-reads.Post κs a x s → class-of-reads.Post κs b y t
     → x ≡ y
 class_of_same κs a b x y s t v h p q = rw (v, h) at p ∙ sym q
@@ -155,8 +155,8 @@ class_of_same κs a b x y s t v h p q = rw (v, h) at p ∙ sym q
 -- the set of the hops of a route
 pub hops_of_same : (κs : Lfts 1) (a b : Dens κs hops-of-kinds.ps) (x y : (res_t hops-of-kinds.r κs).Denot)
     (s t : AtExit (ended_of 1 hops-of-kinds.ps hops-of-kinds.r) κs)
-    → view a.0.now ≡ view b.0.now
-    → place a.0.now a.1.0 ≡ place b.0.now b.1.0
+    → view (known_routes a.0) ≡ view (known_routes b.0)
+    → place (known_routes a.0) a.1.0 ≡ place (known_routes b.0) b.1.0
     → hops-of-reads.Post κs a x s → hops-of-reads.Post κs b y t
     → x ≡ y
 hops_of_same κs a b x y s t v h p q = rw (v, h) at p ∙ sym q
@@ -164,8 +164,8 @@ hops_of_same κs a b x y s t v h p q = rw (v, h) at p ∙ sym q
 -- the cheapest hop
 pub cheapest_same : (κs : Lfts 1) (a b : Dens κs cheapest-kinds.ps) (x y : (res_t cheapest-kinds.r κs).Denot)
     (s t : AtExit (ended_of 1 cheapest-kinds.ps cheapest-kinds.r) κs)
-    → view a.0.now ≡ view b.0.now
-    → place a.0.now a.1.0 ≡ place b.0.now b.1.0
+    → view (known_routes a.0) ≡ view (known_routes b.0)
+    → place (known_routes a.0) a.1.0 ≡ place (known_routes b.0) b.1.0
     → a.1.1.0 ≡ b.1.1.0
     → cheapest-reads.Post κs a x s → cheapest-reads.Post κs b y t
     → x ≡ y

@@ -8,7 +8,7 @@ use contract.Lifetimes.{Lfts}
 use denote.Triple.Clauses.{AtExit}
 use borrow.Fn.Kinds.{Dens, ended_of, res_t}
 use Rattle.routes.specs.declared.Count.{Count}
-use Rattle.routes.specs.Places.Parts.{table}
+use Rattle.routes.specs.Places.Parts.{table, known_routes}
 use Rattle.routes.specs.Places.View.{view, count_of, count_one, found_one}
 use Rattle.routes.proofs.Count.none.Kinds as none-kinds
 use Rattle.routes.proofs.Count.none.Reads as none-reads
@@ -32,14 +32,14 @@ use Rattle.routes.proofs.has_hop.Kinds as has-hop-kinds
 use Rattle.routes.proofs.has_hop.Reads as has-hop-reads
 use Rattle.routes.proofs.drop_face.Kinds as drop-face-kinds
 use Rattle.routes.proofs.drop_face.Reads as drop-face-reads
-use Rattle.routes.proofs.Routes.longest.Kinds as longest-kinds
-use Rattle.routes.proofs.Routes.longest.Reads as longest-reads
-use Rattle.routes.proofs.Routes.class_of.Kinds as class-of-kinds
-use Rattle.routes.proofs.Routes.class_of.Reads as class-of-reads
-use Rattle.routes.proofs.Routes.hops_of.Kinds as hops-of-kinds
-use Rattle.routes.proofs.Routes.hops_of.Reads as hops-of-reads
-use Rattle.routes.proofs.Routes.cheapest.Kinds as cheapest-kinds
-use Rattle.routes.proofs.Routes.cheapest.Reads as cheapest-reads
+use Rattle.routes.proofs.Known.longest.Kinds as longest-kinds
+use Rattle.routes.proofs.Known.longest.Reads as longest-reads
+use Rattle.routes.proofs.Known.class_of.Kinds as class-of-kinds
+use Rattle.routes.proofs.Known.class_of.Reads as class-of-reads
+use Rattle.routes.proofs.Known.hops_of.Kinds as hops-of-kinds
+use Rattle.routes.proofs.Known.hops_of.Reads as hops-of-reads
+use Rattle.routes.proofs.Known.cheapest.Kinds as cheapest-kinds
+use Rattle.routes.proofs.Known.cheapest.Reads as cheapest-reads
 use Rattle.routes.proofs.Same as same
 
 -- two new tables have the same routes, and count as many

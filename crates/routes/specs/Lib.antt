@@ -1,3 +1,4 @@
 pub mod Operations
+pub mod Lent
 pub mod Places
 pub mod Laws

@@ -2,5 +2,4 @@ pub mod View
 pub mod Hop
 pub mod Longest
 pub mod Parts
-pub mod Lent
 pub mod Stays

@@ -12,7 +12,7 @@ ghost use Rattle.records.specs.Route.{route_of, with_hop, hop_at, cheapest_of};
 ghost use Rattle.routes.specs.declared.Count.{Count};
 ghost use Rattle.routes.specs.declared.Routes.{Routes};
 ghost use Rattle.routes.specs.Places.View.{view, placed, found, Finds, count_of, route_row};
-ghost use Rattle.routes.specs.Places.Parts.{table};
+ghost use Rattle.routes.specs.Places.Parts.{table, known_routes};
 ghost use Rattle.faces.specs.Found.{face_in};
 ghost use Rattle.routes.specs.Places.Stays.{RowsStay};
 ghost use Rattle.routes.specs.Places.Hop.{least_of};
@@ -53,6 +53,15 @@ pub struct Routes {
     pub prefixes: Prefixes,
     pub rows: Rows,
     pub costs: Costs,
+    pub count: Count,
+}
+
+// Routes that are lent to be read, in parts.
+#[derive(Clone, Copy)]
+pub struct Known<'a> {
+    pub prefixes: &'a Prefixes,
+    pub rows: &'a Rows,
+    pub costs: &'a Costs,
     pub count: Count,
 }
 
@@ -234,7 +243,8 @@ pub fn drop_hop(rows: &mut Rows, count: Count, route: Handle, face: usize)
 
 // A face closes: "Its next hops go too".
 pub fn drop_face(rows: &mut Rows, face: usize)
-    ensures { (p c : List (List ℕ)) (n : Count) → view (table p rows.new c n) ≡ map (with_hop face none) (view (table p rows.old c n)) }
+    ensures { (p c : List (List ℕ)) (n : Count) → view (table p rows.new c n)
+        ≡ map (with_hop face none) (view (table p rows.old c n)) }
 {
     for row in rows {
         take_hop(row, face);
@@ -284,11 +294,12 @@ impl Routes {
             self.count.count = n - 1;
         }
     }
+}
 
+impl Known<'_> {
     // "the longest matching route" for a name, if one matches.
-    pub fn longest(&self, name: &[u8]) -> Option<Handle>
-        ensures { MatchOption result (longest_at name.now (view self.now) ≡ length (view self.now))
-            (λ h. (placed self.now h ≡ longest_at name.now (view self.now)) × (placed self.now h < length (view self.now))) }
+    pub fn longest(self, name: &[u8]) -> Option<Handle>
+        ensures { let t = known_routes self.entry in Finds t (longest_at name.now (view t)) result }
     {
         // From the last route to the first: what was found so far gives way to a match that is no shorter.
         let mut best = None;
@@ -305,22 +316,22 @@ impl Routes {
     }
 
     // The class word of a route; 0, which is no class, where there is none.
-    pub fn class_of(&self, route: Handle) -> u64
-        ensures { result ≡ given 0 class_word (found self.now route) }
+    pub fn class_of(self, route: Handle) -> u64
+        ensures { result ≡ given 0 class_word (found (known_routes self.entry) route) }
     {
-        row_of(&self.rows, self.count, route).map_or(0, |row| row.class)
+        row_of(self.rows, self.count, route).map_or(0, |row| row.class)
     }
 
     // The set of the next hops of a route.
-    pub fn hops_of(&self, route: Handle) -> u64
-        ensures { result ≡ given 0 (hops_of most_faces) (found self.now route) }
+    pub fn hops_of(self, route: Handle) -> u64
+        ensures { result ≡ given 0 (hops_of most_faces) (found (known_routes self.entry) route) }
     {
-        row_of(&self.rows, self.count, route).map_or(0, |row| faces::members(row.hops))
+        row_of(self.rows, self.count, route).map_or(0, |row| faces::members(row.hops))
     }
 
     // The cheapest next hop of a route that is in a set of faces, "ties to the lower face".
-    pub fn cheapest(&self, route: Handle, set: u64) -> Option<usize>
-        ensures { face_in result ≡ given none (cheapest_of (has_face most_faces set)) (found self.now route) }
+    pub fn cheapest(self, route: Handle, set: u64) -> Option<usize>
+        ensures { face_in result ≡ given none (cheapest_of (has_face most_faces set)) (found (known_routes self.entry) route) }
     {
         let i = route.at;
         if i < self.count.cut() {

@@ -9,6 +9,7 @@ ghost use Rattle.records.specs.Route.{longest};
 ghost use Rattle.faces.specs.Set.{has_face};
 ghost use Rattle.faces.specs.Places.View.{view};
 ghost use Rattle.routes.specs.Places.View as known;
+ghost use Rattle.routes.specs.Places.Parts.{known_routes};
 ghost use Rattle.rules.specs.Outcome.{interest, dat, nack, kind_number, route_class};
 ghost use Rattle.packets.specs.Places.View.{lowered};
 ghost use Rattle.writing.specs.Written.{nack_bytes};
@@ -19,7 +20,7 @@ ghost use Rattle.sending.specs.Places.Copies.{NotesCopies};
 
 use faces::{Faces, Walk, lowest};
 use packets::HopLimit;
-use routes::Routes;
+use routes::Known;
 use sizes::FACES;
 use writing::{Request, write_data, write_interest, write_nack};
 
@@ -171,8 +172,8 @@ pub fn send_copies(
 }
 
 // The class word of the longest route for a name, "or 3 if there is none".
-pub fn class_for(routes: &Routes, name: &[u8]) -> u64
-    ensures { result ≡ class_number (route_class (longest name.now (known.view routes.now))) }
+pub fn class_for(routes: Known, name: &[u8]) -> u64
+    ensures { result ≡ class_number (route_class (longest name.now (known.view (known_routes routes.entry)))) }
 {
     match routes.longest(name) {
         Some(route) => routes.class_of(route),
@@ -182,7 +183,7 @@ pub fn class_for(routes: &Routes, name: &[u8]) -> u64
 
 // The Nack of a refused Interest: "Nacks go only to point-to-point faces."
 pub fn refuse(
-    routes: &Routes,
+    routes: Known,
     faces: Faces,
     sends: &mut Sends,
     out: &mut [u8],
@@ -192,8 +193,8 @@ pub fn refuse(
 ) -> usize
     ensures { PacksIn (lent sends) (lent out) result
         (if_room (nack_bytes reason request.entry.name.now request.entry.prefix request.entry.fresh request.entry.nonce) out.old
-        (nack_sends (view faces) (known.view routes.now) face reason request.entry.name.now request.entry.prefix request.entry.fresh
-        request.entry.nonce)) }
+        (nack_sends (view faces) (known.view (known_routes routes.entry)) face reason request.entry.name.now
+        request.entry.prefix request.entry.fresh request.entry.nonce)) }
 {
     if faces.is_peer(face) {
         let class = class_for(routes, request.name);

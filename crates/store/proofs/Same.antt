@@ -7,6 +7,7 @@ use contract.Lifetimes.{Lfts}
 use denote.Triple.Clauses.{AtExit}
 use borrow.Fn.Kinds.{Dens, ended_of, res_t}
 use Rattle.std.specs.Option.{option_map}
+use Rattle.store.specs.Places.Parts.{table}
 use Rattle.store.specs.Places.View.{view, count_of, place}
 use Rattle.store.specs.Laws.Hits.{looks_same}
 use Rattle.store.proofs.Store.is_there.Kinds as is-there-kinds
@@ -28,10 +29,10 @@ pub is_there_same : (κs : Lfts 1) (a b : Dens κs is-there-kinds.ps) (x y : (re
 is_there_same κs a b x y s t v h p q = rw (v, h) at p ∙ sym q
 
 -- the bytes of a Data
-pub bytes_of_same : (κs : Lfts 1) (a b : Dens κs bytes-of-kinds.ps) (x y : (res_t bytes-of-kinds.r κs).Denot)
-    (s t : AtExit (ended_of 1 bytes-of-kinds.ps bytes-of-kinds.r) κs)
-    → view (record { rows = a.0.now; count = a.1.0 }) ≡ view (record { rows = b.0.now; count = b.1.0 })
-    → place (record { rows = a.0.now; count = a.1.0 }) a.1.1.0 ≡ place (record { rows = b.0.now; count = b.1.0 }) b.1.1.0
+pub bytes_of_same : (κs : Lfts 2) (a b : Dens κs bytes-of-kinds.ps) (x y : (res_t bytes-of-kinds.r κs).Denot)
+    (s t : AtExit (ended_of 2 bytes-of-kinds.ps bytes-of-kinds.r) κs)
+    → view (table a.0.now a.1.0.now a.1.1.0) ≡ view (table b.0.now b.1.0.now b.1.1.0)
+    → place (table a.0.now a.1.0.now a.1.1.0) a.1.1.1.0 ≡ place (table b.0.now b.1.0.now b.1.1.0) b.1.1.1.0
     → bytes-of-reads.Post κs a x s → bytes-of-reads.Post κs b y t → x.now ≡ y.now
 bytes_of_same κs a b x y s t v h p q = rw (v, h) at p.0 ∙ sym q.0
 

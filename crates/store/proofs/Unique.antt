@@ -1,12 +1,17 @@
 -- One outcome for each input of each public function: any two that its contract admits are equal, and leave the same Data and count as
--- many. Rows past the last Data and bytes of a row past its length are not fixed.
+-- many. Packets and rows past the last Data and bytes of a packet past its length are not fixed.
 -- Assumes nothing.
+use Prim.Native.Nat.{ℕ}
+use mathlib.Core.List.{[]}
 use mathlib.Core.Path.{◌≡◌, refl, sym, ◌∙◌}
 use contract.Lifetimes.{Lfts}
 use denote.Triple.Clauses.{AtExit}
 use borrow.Fn.Kinds.{Dens, ended_of, res_t}
-use Rattle.store.specs.Places.View.{view, count_of}
+use Rattle.store.specs.Places.View.{view, count_of, count_is}
 use Rattle.store.specs.Laws.Hits.{looks_one}
+use Rattle.store.specs.declared.Store.{Store}
+use Rattle.store.proofs.none.Kinds as none-kinds
+use Rattle.store.proofs.none.Reads as none-reads
 use Rattle.store.proofs.Store.new.Kinds as new-kinds
 use Rattle.store.proofs.Store.new.Reads as new_reads
 use Rattle.store.proofs.Store.clear.Kinds as clear-kinds
@@ -22,6 +27,16 @@ use Rattle.store.proofs.Store.look.Reads as look-reads
 use Rattle.store.proofs.Store.touch.Kinds as touch-kinds
 use Rattle.store.proofs.Store.touch.Reads as Touch-reads
 use Rattle.store.proofs.Same as same
+
+-- a store that counts so many Data
+abbrev counting : ℕ → Store
+counting n = record { packets = []; rows = []; count = n }
+
+-- two counts of no Data are the same
+pub none_one : (κs : Lfts 0) (a : Dens κs none-kinds.ps) (x y : (res_t none-kinds.r κs).Denot)
+    (s t : AtExit (ended_of 0 none-kinds.ps none-kinds.r) κs)
+    → none-reads.Post κs a x s → none-reads.Post κs a y t → x ≡ y
+none_one κs a x y s t p q = sym (count_is (counting x)) ∙ p.1 (counting x) refl ∙ sym (q.1 (counting y) refl) ∙ count_is (counting y)
 
 -- two new stores have the same Data, and count as many
 pub new_one : (κs : Lfts 0) (a b : Dens κs new-kinds.ps) (x y : (res_t new-kinds.r κs).Denot)
@@ -44,8 +59,8 @@ pub is_there_one : (κs : Lfts 1) (a : Dens κs is-there-kinds.ps) (x y : (res_t
 is_there_one κs a x y s t p q = same.is_there_same κs a a x y s t refl refl p q
 
 -- two parts with the bytes of a Data hold the same bytes
-pub bytes_of_one : (κs : Lfts 1) (a : Dens κs bytes-of-kinds.ps) (x y : (res_t bytes-of-kinds.r κs).Denot)
-    (s t : AtExit (ended_of 1 bytes-of-kinds.ps bytes-of-kinds.r) κs)
+pub bytes_of_one : (κs : Lfts 2) (a : Dens κs bytes-of-kinds.ps) (x y : (res_t bytes-of-kinds.r κs).Denot)
+    (s t : AtExit (ended_of 2 bytes-of-kinds.ps bytes-of-kinds.r) κs)
     → bytes-of-reads.Post κs a x s → bytes-of-reads.Post κs a y t → x.now ≡ y.now
 bytes_of_one κs a x y s t p q = same.bytes_of_same κs a a x y s t refl refl p q
 

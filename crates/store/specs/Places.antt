@@ -1,4 +1,5 @@
 pub mod View
 pub mod Look
+pub mod Parts
 pub mod Put
 pub mod Stays

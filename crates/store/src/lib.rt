@@ -1,4 +1,4 @@
-// The store: Data in the order of their use, each packet in a row, the least recently stored or hit first.
+// The store: Data in the order of their use, a packet and a row for each, the least recently stored or hit first.
 #![tactic(auto)]
 
 ghost use Rattle.std.specs.Prelude.{◌<◌, ◌≤◌, ◌≡◌, [], length, take, min, MatchOption, IfSome};
@@ -7,7 +7,9 @@ ghost use Rattle.sizes.specs.Sizes.{most_packet, most_stored};
 ghost use Rattle.records.specs.Slots.{given, is_some};
 ghost use Rattle.records.specs.Stored.{serves, earlier, lookup};
 ghost use Rattle.std.proofs.Math.Option.{some};
-ghost use Rattle.store.specs.Places.View.{view, placed, found, count_of, data_of, stored_of};
+ghost use Rattle.store.specs.Places.View.{view, placed, found, count_of, data_of, stored_of, stored_at};
+ghost use Rattle.store.specs.Places.Parts.{table};
+ghost use Rattle.store.specs.declared.Store.{Store};
 ghost use Rattle.store.specs.Operations.{Puts, Looks, recent};
 ghost use Rattle.store.specs.Places.Put.{is_named, leaver};
 ghost use Rattle.store.specs.Places.Stays.{RowsStay};
@@ -18,22 +20,24 @@ use packethead::find_name;
 use rows::part;
 use sizes::{PACKET, STORED};
 
-// A Data: the bytes of its packet ("Packet at most 1,500 bytes") and how many of them there are, when it was stored, and its freshness as
-// it counts.
+// The packets of the Data ("Packet at most 1,500 bytes", "stored Data 8").
+pub type Packets = [[u8; PACKET]; STORED];
+
+// A Data: how many bytes its packet has, when it was stored, and its freshness as it counts.
 #[derive(Clone, Copy)]
 pub struct Row {
-    pub packet: [u8; PACKET],
     pub len: u64,
     pub time: u64,
     pub freshness: u64,
 }
 
-// The rows of the Data ("stored Data 8").
+// The rows of the Data.
 pub type Rows = [Row; STORED];
 
-// The Data, and how many there are: a count of 0 empties it. Nobody above reads its fields.
+// The Data, and how many there are: a count of 0 empties it. Nobody above reads its fields but to lend them.
 #[derive(Clone, Copy)]
 pub struct Store {
+    pub packets: Packets,
     pub rows: Rows,
     pub count: usize,
 }
@@ -45,19 +49,19 @@ pub struct Handle {
 }
 
 impl Row {
-    // The bytes of the packet, no more than the row has.
-    fn bytes(&self) -> &[u8]
-        ensures bytes { result.now ≡ (stored_of self.now).bytes }
+    // The bytes of the packet, no more than it has room for.
+    fn bytes<'a>(&self, packet: &'a [u8; PACKET]) -> &'a [u8]
+        ensures bytes { result.now ≡ (stored_of packet.now self.now).bytes }
         ensures fits { length result.now ≤ most_packet }
     {
-        part(&self.packet, self.len)
+        part(packet, self.len)
     }
 
     // The name of the Data, where it stands in the packet.
-    fn name(&self) -> &[u8]
-        ensures { result.now ≡ (stored_of self.now).name }
+    fn name<'a>(&self, packet: &'a [u8; PACKET]) -> &'a [u8]
+        ensures { result.now ≡ (stored_of packet.now self.now).name }
     {
-        find_name(self.bytes())
+        find_name(self.bytes(packet))
     }
 
     // Whether a lookup may take the Data by its time: "with MustBeFresh only while now < storing time + freshness", with no sum that could
@@ -69,29 +73,36 @@ impl Row {
     }
 
     // Whether a lookup may take the Data by its name: "an equal name, with CanBePrefix also any name extending it".
-    fn is_named(&self, name: &[u8], prefix: bool) -> bool
-        ensures { result ≡ answers name.now prefix (stored_of self.now).name }
+    fn is_named(&self, packet: &[u8; PACKET], name: &[u8], prefix: bool) -> bool
+        ensures { result ≡ answers name.now prefix (stored_of packet.now self.now).name }
     {
         if prefix {
-            is_prefix(name, self.name())
+            is_prefix(name, self.name(packet))
         } else {
-            same(name, self.name())
+            same(name, self.name(packet))
         }
     }
 
     // Whether a lookup may take the Data.
-    fn is_served(&self, name: &[u8], prefix: bool, fresh: bool, time: u64) -> bool
-        ensures { result ≡ serves time name.now prefix fresh (stored_of self.now) }
+    fn is_served(
+        &self,
+        packet: &[u8; PACKET],
+        name: &[u8],
+        prefix: bool,
+        fresh: bool,
+        time: u64,
+    ) -> bool
+        ensures { result ≡ serves time name.now prefix fresh (stored_of packet.now self.now) }
     {
-        self.is_in_time(fresh, time) && self.is_named(name, prefix)
+        self.is_in_time(fresh, time) && self.is_named(packet, name, prefix)
     }
 
-    // A Data into the row, which has room for its bytes.
-    fn fill(&mut self, bytes: &[u8], time: u64, freshness: u64)
+    // A Data into the row and its packet, which has room for the bytes.
+    fn fill(&mut self, packet: &mut [u8; PACKET], bytes: &[u8], time: u64, freshness: u64)
         requires { length bytes.now ≤ most_packet }
-        ensures { stored_of self.new ≡ data_of bytes.now time freshness }
+        ensures { stored_of packet.new self.new ≡ data_of bytes.now time freshness }
     {
-        self.packet[..bytes.len()].copy_from_slice(bytes);
+        packet[..bytes.len()].copy_from_slice(bytes);
         self.len = bytes.len() as u64;
         self.time = time;
         self.freshness = freshness;
@@ -105,15 +116,24 @@ fn counted(rows: &Rows, count: usize) -> &[Row]
     &rows[..count.min(STORED)]
 }
 
-// The bytes of a Data, where they stand; none where there is no Data. Of the store the rows alone are lent for as long as the bytes are.
-pub fn bytes_of(rows: &Rows, count: usize, taken: Handle) -> &[u8]
-    ensures bytes { result.now ≡ given [] (λ d. d.bytes) (found (record { rows = rows.now; count = count }) taken) }
+// The bytes of a Data, where they stand; none where there is no Data. Of the store the packets alone are lent as long as the bytes are.
+pub fn bytes_of<'a>(packets: &'a Packets, rows: &Rows, count: usize, taken: Handle) -> &'a [u8]
+    ensures bytes { result.now ≡ given [] (λ d. d.bytes) (found (table packets.now rows.now count) taken) }
     ensures fits { length result.now ≤ most_packet }
 {
     match counted(rows, count).get(taken.at) {
-        Some(row) => row.bytes(),
+        Some(row) => row.bytes(&packets[taken.at]),
         None => &[],
     }
+}
+
+// How many Data a store without any counts, whatever its packets and rows hold.
+pub fn none() -> usize
+    ensures no_data { (s : Store) → s.count ≡ result → view s ≡ [] }
+    ensures counted { (s : Store) → s.count ≡ result → count_of s ≡ 0 }
+{
+    // No Data is counted.
+    0
 }
 
 impl Store {
@@ -123,12 +143,12 @@ impl Store {
         ensures counted { count_of result ≡ 0 }
     {
         let row = Row {
-            packet: [0; PACKET],
             len: 0,
             time: 0,
             freshness: 0,
         };
         Store {
+            packets: [[0; PACKET]; STORED],
             rows: [row; STORED],
             count: 0,
         }
@@ -169,7 +189,10 @@ impl Store {
         ensures { MatchOption result (index_of (is_named name.now) (view self.now) ≡ length (view self.now))
             (λ i. (i < length (view self.now)) × (i ≡ index_of (is_named name.now) (view self.now))) }
     {
-        self.data().iter().position(|row| same(name, row.name()))
+        self.packets
+            .iter()
+            .zip(self.data())
+            .position(|(packet, row)| same(name, row.name(packet)))
     }
 
     // The place of the Data that gives way to a new one of a name: the equal name's, else, in a full store, that of the least recent. None
@@ -194,7 +217,7 @@ impl Store {
     {
         self.count = self.len();
         if let Some(at) = self.leaving(name) {
-            // It takes the last row, which then counts no more.
+            // It takes the last place, which then counts no more.
             self.touch(Handle { at });
             self.count -= 1;
         }
@@ -211,20 +234,28 @@ impl Store {
             return false;
         }
         self.make_room(find_name(bytes));
-        self.rows[self.count].fill(bytes, time, freshness);
+        self.rows[self.count].fill(&mut self.packets[self.count], bytes, time, freshness);
         self.count += 1;
         true
+    }
+
+    // The name of the Data at a place.
+    fn name_at(&self, at: usize) -> &[u8]
+        requires { at < most_stored }
+        ensures { result.now ≡ (stored_at self.now at).name }
+    {
+        self.rows[at].name(&self.packets[at])
     }
 
     // Of a Data and the best of those after it, the place of the first in canonical order.
     fn earlier_of(&self, i: usize, best: Option<usize>) -> usize
         requires at_row { i < most_stored }
         requires best_row { IfSome best (λ b. b < most_stored) }
-        ensures earlier { some (hit self.now.rows result) ≡ earlier (hit self.now.rows i) (hit_at self.now.rows best) }
+        ensures earlier { some (hit self.now result) ≡ earlier (hit self.now i) (hit_at self.now best) }
         ensures within { result < most_stored }
     {
         match best {
-            Some(b) if compare(self.rows[b].name(), self.rows[i].name()).is_lt() => b,
+            Some(b) if compare(self.name_at(b), self.name_at(i)).is_lt() => b,
             _ => i,
         }
     }
@@ -235,7 +266,7 @@ impl Store {
     {
         let mut best = None;
         for i in (0..self.len()).rev() {
-            if self.rows[i].is_served(name, prefix, fresh, time) {
+            if self.rows[i].is_served(&self.packets[i], name, prefix, fresh, time) {
                 best = Some(self.earlier_of(i, best));
             }
         }
@@ -249,6 +280,7 @@ impl Store {
     {
         self.count = self.len();
         if taken.at < self.count {
+            self.packets[taken.at..self.count].rotate_left(1);
             self.rows[taken.at..self.count].rotate_left(1);
         }
     }

@@ -11,6 +11,7 @@ use Rattle.faces.specs.Laws.Found.{face_one}
 use Rattle.faces.specs.Places.View as faces
 use Rattle.dead.specs.Places.View as dead
 use Rattle.routes.specs.Places.View as routes
+use Rattle.routes.specs.Places.Parts.{known_routes}
 use Rattle.coming.specs.Places.Found.{limit_of}
 use Rattle.rules.specs.Node.{Node}
 use Rattle.rules.specs.Interest.{Arrival}
@@ -90,7 +91,7 @@ next_hop_one κs a x y s t p q =
     let n : Node = record {
       time = 0;
       faces = faces.view a.1.0;
-      routes = routes.view a.1.1.0.now;
+      routes = routes.view (known_routes a.1.1.0);
       pending = [];
       store = [];
       dead = [];

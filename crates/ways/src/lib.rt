@@ -13,6 +13,7 @@ ghost use Rattle.faces.specs.Places.View.{view};
 ghost use Rattle.faces.specs.Found.{face_in};
 ghost use Rattle.dead.specs.Places.View as dead;
 ghost use Rattle.routes.specs.Places.View as routes;
+ghost use Rattle.routes.specs.Places.Parts.{known_routes};
 ghost use Rattle.pending_table.specs.Places.Parts.{seen};
 ghost use Rattle.pending_table.specs.Places.View.{entry_at};
 ghost use Rattle.coming.specs.Places.Found.{limit_of};
@@ -27,7 +28,7 @@ use dead::Dead;
 use faces::{Faces, common, remove};
 use packets::HopLimit;
 use pending_table::{Handle, Shown};
-use routes::Routes;
+use routes::Known;
 use sizes::{MOST_LIFETIME, MOST_TIME};
 
 // "Interest with HopLimit 0"
@@ -126,9 +127,9 @@ fn is_from_local(p: Shown, h: Handle, faces: Faces) -> bool
 
 // "in the longest matching route, use the cheapest eligible hop without an out-record; failing that, the eligible hop with the earliest
 // one".
-fn choose(known: &Routes, p: Shown, h: Handle, name: &[u8], may: u64) -> Option<usize>
+fn choose(known: Known, p: Shown, h: Handle, name: &[u8], may: u64) -> Option<usize>
     ensures { (q : ℕ → Bool) → may ≡ faces_where most_faces q
-        → face_in result ≡ next_of q (longest name.now (routes.view known.now)) (entry_at (seen p.entry) h) }
+        → face_in result ≡ next_of q (longest name.now (routes.view (known_routes known.entry))) (entry_at (seen p.entry) h) }
 {
     let route = known.longest(name)?;
     let unsent = pending_handle::unsent(p, h, may);
@@ -145,14 +146,14 @@ fn choose(known: &Routes, p: Shown, h: Handle, name: &[u8], may: u64) -> Option<
 pub fn next_hop(
     time: u64,
     faces: Faces,
-    known: &Routes,
+    known: Known,
     p: Shown,
     h: Handle,
     face: usize,
     name: &[u8],
     hop: Option<HopLimit>,
 ) -> Option<usize>
-    ensures { (n : Node) (a : Arrival) → n.faces ≡ view faces → n.routes ≡ routes.view known.now
+    ensures { (n : Node) (a : Arrival) → n.faces ≡ view faces → n.routes ≡ routes.view (known_routes known.entry)
         → a.face ≡ face → a.ask.name ≡ name.now → a.ask.hop ≡ limit_of hop
         → face_in result ≡ resends_by time n a (entry_at (seen p.entry) h) }
 {

@@ -6,7 +6,7 @@ use Rattle.event.specs.Laws.Comes.{comes_is, step_refused, step_on}
 use Rattle.event.specs.Laws.Rows.{begun_closing}
 use Rattle.on_face.specs.Laws.Closing.{comes_closed}
 use Rattle.on_face.specs.Laws.Faces.{close_bad}
-use Rattle.routes.specs.Places.Lent.{dropping_now}
+use Rattle.routes.specs.Lent.{dropping_now}
 use Rattle.on_face.proofs.close_face.Goals.{in-Err, in-Ok}
 use Rattle.on_face.proofs.close_face.Goals as goal
 

@@ -2,7 +2,7 @@
 use Rattle.sizes.specs.Sizes.{most_faces}
 use Rattle.happenings.specs.Noted.{fate_in}
 use Rattle.pending_table.specs.Places.View.{view_wide, view_said}
-use Rattle.pending_pass.specs.Places.Lent.{marked_table}
+use Rattle.pending_pass.specs.Lent.{marked_table}
 use Rattle.event.specs.declared.Memory.{Memory}
 use Rattle.event.specs.Memory.{node_of}
 use Rattle.on_nack.specs.Laws.Turns.{turn_ends, facts_class}

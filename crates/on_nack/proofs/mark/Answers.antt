@@ -2,7 +2,7 @@
 use Rattle.sizes.specs.Sizes.{most_faces}
 use Rattle.records.specs.Entry.{with_nack}
 use Rattle.pending_handle.specs.Laws.Reason.{view_reason}
-use Rattle.pending_pass.specs.Places.Lent.{marked_table}
+use Rattle.pending_pass.specs.Lent.{marked_table}
 use Rattle.event.specs.declared.Memory.{Memory}
 use Rattle.event.specs.Memory.{node_of}
 use Rattle.on_nack.specs.Laws.Turns.{marked_there, turn_open, turn_nacked, least_is, known_marked, reason_byte}

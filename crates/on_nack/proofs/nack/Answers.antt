@@ -3,7 +3,7 @@ use mathlib.Core.Path.{refl, sym, ap, ◌∙◌}
 use mathlib.Core.List.{List}
 use Prim.Native.Nat.{ℕ}
 use lib.ListN.{length}
-use Rattle.pending_pass.specs.Places.Lent.{marked_table}
+use Rattle.pending_pass.specs.Lent.{marked_table}
 use Rattle.event.specs.declared.Memory.{Memory}
 use Rattle.event.specs.Memory.{node_of}
 use Rattle.event.specs.Laws.Allowed.{allowed_err, allowed_refuses, allowed_zero}

@@ -1,6 +1,6 @@
 -- By case: out of scope, not on a point-to-point face, without such an out-record, or the out-record is marked.
 use mathlib.Core.Path.{refl}
-use Rattle.pending_pass.specs.Places.Lent.{marked_table}
+use Rattle.pending_pass.specs.Lent.{marked_table}
 use Rattle.event.specs.declared.Memory.{Memory}
 use Rattle.event.specs.Memory.{node_of}
 use Rattle.on_nack.specs.Laws.Goes.{nack_scope, nack_other, nack_stale, nack_marked}

@@ -4,13 +4,14 @@ use Rattle.std.proofs.lemmas.List.{get_or-take, get_or_default}
 use Rattle.sizes.specs.Sizes.{most_stored}
 use Rattle.records.specs.Slots.{given}
 use Rattle.store.specs.declared.Store.{Store}
+use Rattle.store.specs.Places.Parts.{table}
 use Rattle.store.specs.Places.View.{no_row, stored_at, place_is, view_at, view_past}
 use Rattle.store.proofs.bytes_of.Goals as goal
 
 pub returns-in-Some-clause-bytes : goal.returns-in-Some-clause-bytes
 unfolding given stored_at
 returns-in-Some-clause-bytes c =
-    let s : Store = record { rows = c.args.rows.now; count = c.args.count } in
+    let s : Store = table c.args.packets.now c.args.rows.now c.args.count in
     let i = c.args.taken.at in
     let n : length c.args.rows.now ≡ most_stored = search rules in
     let k = rw (c.counted.ensures, length-take (min s.count most_stored) s.rows, n) at c.in-Some.ensures.lookup.0 in
@@ -23,7 +24,7 @@ returns-in-Some-clause-bytes c =
 pub returns-in-None-clause-bytes : goal.returns-in-None-clause-bytes
 unfolding given
 returns-in-None-clause-bytes c =
-    let s : Store = record { rows = c.args.rows.now; count = c.args.count } in
+    let s : Store = table c.args.packets.now c.args.rows.now c.args.count in
     let i = c.args.taken.at in
     let n : length c.args.rows.now ≡ most_stored = search rules in
     let k = rw (c.counted.ensures, length-take (min s.count most_stored) s.rows, n) at c.in-None.ensures.lookup.0 in

@@ -32,7 +32,7 @@ module _ (now : ℕ) (name : List ℕ) (p m : Bool) (ds : List Stored) (h : Hit)
 
 -- a handle of the place where a search of the rows found what a lookup takes, if it found it, is a lookup's answer
 pub looks_at : (now : ℕ) (name : List ℕ) (p m : Bool) (s : Store) (made : ℕ → Handle → Type 0) (best : code.Option ℕ)
-    (r : code.Option Handle) → lookup now name p m (view s) ≡ hit_at s.rows best → ((i : ℕ) (h : Handle) → made i h → h.at ≡ i)
+    (r : code.Option Handle) → lookup now name p m (view s) ≡ hit_at s best → ((i : ℕ) (h : Handle) → made i h → h.at ≡ i)
     → MatchOption best (r ≡ code.Option.None) (λ i. IsSomeAnd r (made i))
     → Looks r (placed s) (view s) (lookup now name p m (view s))
 unfolding hit_at hit
@@ -40,7 +40,7 @@ looks_at now name p m s made code.Option.None r e f q = rw q e
 looks_at now name p m s made (code.Option.Some i) code.Option.None e f q = absurd q
 looks_at now name p m s made (code.Option.Some i) (code.Option.Some h) e f q =
     let at : placed s h ≡ i = place_is s h ∙ f i h q in
-    record { hit = hit s.rows i; took = e; at = sym at; there = rw at (hit_at_lem now name p m (view s) (hit s.rows i) e) }
+    record { hit = hit s i; took = e; at = sym at; there = rw at (hit_at_lem now name p m (view s) (hit s i) e) }
 
 module _ (ds : List Stored) (o : Option Hit) (place : Handle → ℕ) (r : code.Option Handle) (e : Looks r place ds o) where
   -- a lookup answers the place of what it takes, and none where it takes none

@@ -27,24 +27,24 @@ use Rattle.store.specs.Places.View.{stored_of, stored_at, view, data_of, view_le
 use Rattle.store.specs.Places.Look.{hit, hit_at, answers, in_time, best_from}
 
 -- a lookup may take a Data whose name answers and which is in time
-pub serves_is : (now : ℕ) (name : List ℕ) (row : Row) (p m : Bool)
-    → serves now name p m (stored_of row) ≡ answers name p (stored_of row).name && in_time now m row
+pub serves_is : (now : ℕ) (name packet : List ℕ) (row : Row) (p m : Bool)
+    → serves now name p m (stored_of packet row) ≡ answers name p (stored_of packet row).name && in_time now m row
 unfolding serves answers in_time stored_of data_of
-serves_is now name row p m = refl
+serves_is now name packet row p m = refl
 
 -- what a lookup may not take for its time it may not take
-pub serves_late : (now : ℕ) (name : List ℕ) (row : Row) (p m : Bool) → in_time now m row ≡ false
-    → serves now name p m (stored_of row) ≡ false
-serves_late now name row p m e = rw (serves_is now name row p m, e) (and_no (answers name p (stored_of row).name))
+pub serves_late : (now : ℕ) (name packet : List ℕ) (row : Row) (p m : Bool) → in_time now m row ≡ false
+    → serves now name p m (stored_of packet row) ≡ false
+serves_late now name packet row p m e = rw (serves_is now name packet row p m, e) (and_no (answers name p (stored_of packet row).name))
   where
     and_no : (a : Bool) → a && false ≡ false
     and_no true = refl
     and_no false = refl
 
 -- what is in time a lookup may take for its name
-pub serves_named : (now : ℕ) (name : List ℕ) (row : Row) (p m : Bool) → in_time now m row ≡ true
-    → serves now name p m (stored_of row) ≡ answers name p (stored_of row).name
-serves_named now name row p m e = rw (serves_is now name row p m, e) (and_yes (answers name p (stored_of row).name))
+pub serves_named : (now : ℕ) (name packet : List ℕ) (row : Row) (p m : Bool) → in_time now m row ≡ true
+    → serves now name p m (stored_of packet row) ≡ answers name p (stored_of packet row).name
+serves_named now name packet row p m e = rw (serves_is now name packet row p m, e) (and_yes (answers name p (stored_of packet row).name))
   where
     and_yes : (a : Bool) → a && true ≡ a
     and_yes true = refl
@@ -95,34 +95,34 @@ before_lt Ordering.Less = refl
 before_lt Ordering.Equal = refl
 before_lt Ordering.Greater = refl
 
-module _ (rows : List Row) where
+module _ (s : Store) where
   -- a place means the Data there
-  pub hit_in : (i : ℕ) → hit_at rows (code.Option.Some i) ≡ some (hit rows i)
+  pub hit_in : (i : ℕ) → hit_at s (code.Option.Some i) ≡ some (hit s i)
   unfolding hit_at
   hit_in i = refl
 
   -- no place means none
-  pub hit_out : hit_at rows code.Option.None ≡ none
+  pub hit_out : hit_at s code.Option.None ≡ none
   unfolding hit_at
   hit_out = refl
 
   -- the place of what a place means is that place, and n where there is none
-  pub place_of_lem : (n : ℕ) (o : code.Option ℕ) → given n (λ h. h.place) (hit_at rows o) ≡ unwrap_or o n
+  pub place_of_lem : (n : ℕ) (o : code.Option ℕ) → given n (λ h. h.place) (hit_at s o) ≡ unwrap_or o n
   unfolding hit_at hit given
   place_of_lem n code.Option.None = refl
   place_of_lem n (code.Option.Some i) = refl
 
   -- with none after it a Data is the first
-  pub earlier_alone : (i : ℕ) → some (hit rows i) ≡ earlier (hit rows i) (hit_at rows code.Option.None)
+  pub earlier_alone : (i : ℕ) → some (hit s i) ≡ earlier (hit s i) (hit_at s code.Option.None)
   unfolding earlier hit_at
   earlier_alone i = refl
 
   -- of a Data and the best of those after it the best is taken only where its name comes before
   pub earlier_is : (i best : ℕ) (t : Bool) (o : Ordering) (x y : List ℕ) → t ≡ is_before o → o ≡ canonical_order x y
-      → x ≡ (stored_at rows best).name → y ≡ (stored_at rows i).name
-      → some (hit rows (pick t best i)) ≡ earlier (hit rows i) (hit_at rows (code.Option.Some best))
+      → x ≡ (stored_at s best).name → y ≡ (stored_at s i).name
+      → some (hit s (pick t best i)) ≡ earlier (hit s i) (hit_at s (code.Option.Some best))
   unfolding earlier hit hit_at
-  earlier_is i best t o x y q e a b = rw (pick_ap (λ (k : ℕ). some (hit rows k)), q, e, a, b)
+  earlier_is i best t o x y q e a b = rw (pick_ap (λ (k : ℕ). some (hit s k)), q, e, a, b)
 
 module _ (p : Stored → Bool) (s : Store) where
   -- past the last Data it takes none
@@ -133,13 +133,13 @@ module _ (p : Stored → Bool) (s : Store) where
       rw (drop_of_length-le (view s) l)
 
   -- a Data that it may take is taken, or what it takes of those after it
-  pub best_taken : (i j : ℕ) → i + 1 ≡ j → i < min s.count most_stored → p (stored_at s.rows i) ≡ true
-      → best_from p s i ≡ earlier (hit s.rows i) (best_from p s j)
+  pub best_taken : (i j : ℕ) → i + 1 ≡ j → i < min s.count most_stored → p (stored_at s i) ≡ true
+      → best_from p s i ≡ earlier (hit s i) (best_from p s j)
   unfolding best_from lookup_from hit
   best_taken i j q h e = rw (← q, view_from s i h, e, pick_yes, add-one i)
 
   -- a Data that it may not take is passed
-  pub best_passed : (i j : ℕ) → i + 1 ≡ j → i < min s.count most_stored → p (stored_at s.rows i) ≡ false
+  pub best_passed : (i j : ℕ) → i + 1 ≡ j → i < min s.count most_stored → p (stored_at s i) ≡ false
       → best_from p s i ≡ best_from p s j
   unfolding best_from lookup_from
   best_passed i j q h e = rw (← q, view_from s i h, e, pick_no, add-one i)

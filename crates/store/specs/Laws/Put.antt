@@ -22,7 +22,8 @@ use Rattle.store.specs.declared.Row.{Row}
 use Rattle.store.specs.declared.Store.{Store}
 use Rattle.store.specs.declared.Handle.{Handle}
 use Rattle.store.specs.Places.View.{no_row, stored_of, stored_at, view, place, data_of, place_is, view_length, view_count, view_at}
-use Rattle.store.specs.Places.View.{view_add, view_without, view_take, count_of, count_is}
+use Rattle.store.specs.Places.View.{view_add, view_without, view_take, count_of, count_is, Moved}
+use Rattle.store.specs.Places.Parts.{table}
 use Rattle.store.specs.Operations.{recent, kept, fits_row, Puts}
 use Rattle.store.specs.Places.Put.{is_named, leaver}
 
@@ -45,26 +46,27 @@ stored_is d ds h =
     rw (without_out i ds (omega arith), l, pick_no, without_first ds))
 
 module _ (bytes : List ℕ) (time freshness : ℕ) (s : Store) where
-  -- bytes that are longer than a row change nothing
+  -- bytes that are longer than a packet change nothing
   pub put_long : (n : ℕ) → n ≡ min s.count most_stored → most_packet < length bytes
-      → Puts false (view (record { rows = s.rows; count = n })) (data_of bytes time freshness) (view s)
+      → Puts false (view (table s.packets s.rows n)) (data_of bytes time freshness) (view s)
   unfolding kept fits_row data_of
   put_long n c h =
       let l : leb (length bytes) most_packet ≡ false = lt-leb (length bytes) most_packet h in
-      record { said = sym l; left = view_count s.rows n s.count (omega arith) ∙ sym (pick_no _ _ _ l) }
+      record { said = sym l; left = view_count s.packets s.rows n s.count (omega arith) ∙ sym (pick_no _ _ _ l) }
 
-  -- a row written after the Data that are left stores a Data
-  pub put_short : (rows : List Row) (r : ℕ) (row : Row) → length bytes ≤ most_packet → r < most_stored → length rows ≡ most_stored
-      → view (record { rows = rows; count = r }) ≡ without (leaver (name_of bytes) (view s)) (view s)
-      → stored_of row ≡ data_of bytes time freshness
-      → Puts true (view (record { rows = set rows r row; count = r + 1 })) (data_of bytes time freshness) (view s)
+  -- a packet and a row written after the Data that are left store a Data
+  pub put_short : (packets : List (List ℕ)) (rows : List Row) (r : ℕ) (packet : List ℕ) (row : Row) → length bytes ≤ most_packet
+      → r < most_stored → length packets ≡ most_stored → length rows ≡ most_stored
+      → view (table packets rows r) ≡ without (leaver (name_of bytes) (view s)) (view s)
+      → stored_of packet row ≡ data_of bytes time freshness
+      → Puts true (view (table (set packets r packet) (set rows r row) (r + 1))) (data_of bytes time freshness) (view s)
   unfolding kept fits_row data_of
-  put_short rows r row h g a e w =
+  put_short packets rows r packet row h g a b e w =
       let l : leb (length bytes) most_packet ≡ true = le-leb (length bytes) most_packet h in
       let m : length (view s) ≤ most_stored = omega (arith, view_length s) in
       record {
         said = sym l;
-        left = view_add rows r row g a ∙ rw (e, w, l, pick_yes) (stored_is (data_of bytes time freshness) (view s) m);
+        left = view_add packets rows r packet row g a b ∙ rw (e, w, l, pick_yes) (stored_is (data_of bytes time freshness) (view s) m);
       }
 
 -- the last Data is the most recent already, and past it there is none
@@ -98,44 +100,49 @@ module _ (s t : Store) (i : ℕ) (h : i < length (view s)) (e : view t ≡ recen
   pub recent_count : t.count ≡ length (view s)
   recent_count =
       let at = view_at s i (omega (arith, view_length s)) in
-      sym (count_is t) ∙ c ∙ ap (λ (ds : List Stored). length ds) e ∙ length_recent i (stored_at s.rows i) (view s) h at
+      sym (count_is t) ∙ c ∙ ap (λ (ds : List Stored). length ds) e ∙ length_recent i (stored_at s i) (view s) h at
 
   -- where the most recent then counts no more, it is gone
-  pub recent_gone : view (record { rows = t.rows; count = t.count - 1 }) ≡ without i (view s)
+  pub recent_gone : view (table t.packets t.rows (t.count - 1)) ≡ without i (view s)
   recent_gone =
       let at = view_at s i (omega (arith, view_length s)) in
       let n : length (view s) - 1 ≡ t.count - 1 = omega (arith, recent_count) in
-      view_take t.rows t.count (t.count - 1) (omega arith) (omega (arith, recent_count, view_length s))
-      ∙ rw (e, ← n) (recent_less i (stored_at s.rows i) (view s) h at)
+      view_take t.packets t.rows t.count (t.count - 1) (omega arith) (omega (arith, recent_count, view_length s))
+      ∙ rw (e, ← n) (recent_less i (stored_at s i) (view s) h at)
 
 -- so a handle that stands for the last, or for none, leaves the store as it is
 pub last_stays : (s : Store) (n : ℕ) (h : Handle) → n ≡ min s.count most_stored → n ≤ h.at + 1
-    → view (record { rows = s.rows; count = n }) ≡ recent (place s h) (view s)
+    → view (table s.packets s.rows n) ≡ recent (place s h) (view s)
 last_stays s n h c l =
-    view_count s.rows n s.count (omega arith) ∙ rw place_is (sym (recent_last h.at (view s) (omega (arith, view_length s))))
+    view_count s.packets s.rows n s.count (omega arith) ∙ rw place_is (sym (recent_last h.at (view s) (omega (arith, view_length s))))
 
--- the Data that was taken out, written after those that are left, is the most recent
-pub touch_is : (s : Store) (rows : List Row) (n i r : ℕ) → n ≡ min s.count most_stored → i < n → r < most_stored
-    → length rows ≡ most_stored → view (record { rows = rows; count = r }) ≡ without i (view s)
-    → view (record { rows = set rows r (get_or s.rows i no_row); count = n }) ≡ recent i (view s)
+-- the Data that was taken out, its packet and its row written after those that are left, is the most recent
+pub touch_is : (s : Store) (packets : List (List ℕ)) (rows : List Row) (n i r : ℕ) → n ≡ min s.count most_stored → i < n
+    → r < most_stored → length packets ≡ most_stored → length rows ≡ most_stored
+    → view (table packets rows r) ≡ without i (view s)
+    → view (table (set packets r (get_or s.packets i [])) (set rows r (get_or s.rows i no_row)) n) ≡ recent i (view s)
 unfolding recent given stored_at
-touch_is s rows n i r c h g a e =
+touch_is s packets rows n i r c h g a b e =
     let v = view s in
+    let p = get_or s.packets i [] in
+    let w = get_or s.rows i no_row in
     let m : length v ≡ min s.count most_stored = view_length s in
     let f : r + 1 ≡ min s.count most_stored =
-    omega (arith, view_length (record { rows = rows; count = r }), ap (λ (x : List Stored). length x) e, length_without i v (omega arith)) in
+    omega (arith, view_length (table packets rows r), ap (λ (x : List Stored). length x) e, length_without i v (omega arith)) in
     rw (view_at s i (omega arith))
-    (view_count (set rows r (get_or s.rows i no_row)) n (r + 1) (omega arith)
-    ∙ view_add rows r (get_or s.rows i no_row) g a
-    ∙ rw e)
+    (view_count (set packets r p) (set rows r w) n (r + 1) (omega arith) ∙ view_add packets rows r p w g a b ∙ rw e)
 
--- rows that turned by one place from a Data to the last make that Data the most recent
-pub turn_is : (s : Store) (rows : List Row) (n i : ℕ) → n ≡ min s.count most_stored → i < n → length rows ≡ most_stored
-    → ((k : ℕ) → k < i → get_or rows k no_row ≡ get_or s.rows k no_row)
-    → ((k : ℕ) → i ≤ k → k + 1 < n → get_or rows k no_row ≡ get_or s.rows (k + 1) no_row)
-    → get_or rows (n - 1) no_row ≡ get_or s.rows i no_row
-    → view (record { rows = rows; count = n }) ≡ recent i (view s)
-turn_is s rows n i c h a before moved last =
-    let r : n - 1 < most_stored = omega arith in
-    let v = touch_is s rows n i (n - 1) c h r a (view_without s rows i n c h before moved) in
-    rw (← last, set-get_or rows (n - 1) no_row) at v
+-- of n, those from place i on turned by one place: each is the next, and the last is the first
+pub record Turned {A : Type 0} (z : A) (i n : ℕ) (old new : List A) : Type 0 where
+  pub moved : Moved z i n old new
+  pub last : get_or new (n - 1) z ≡ get_or old i z
+
+-- packets and rows that turned by one place from a Data to the last make that Data the most recent
+pub turn_is : (s : Store) (packets : List (List ℕ)) (rows : List Row) (n i : ℕ) → n ≡ min s.count most_stored → i < n
+    → length packets ≡ most_stored → length rows ≡ most_stored
+    → Turned [] i n s.packets packets → Turned no_row i n s.rows rows
+    → view (table packets rows n) ≡ recent i (view s)
+turn_is s packets rows n i c h a b p r =
+    let l : n - 1 < most_stored = omega arith in
+    let v = touch_is s packets rows n i (n - 1) c h l a b (view_without s packets rows i n c h p.moved r.moved) in
+    rw (← (p.last), ← (r.last), set-get_or packets (n - 1) [], set-get_or rows (n - 1) no_row) at v

@@ -9,14 +9,14 @@ use Rattle.store.specs.declared.Row.{Row}
 use Rattle.store.specs.declared.Store.{Store}
 use Rattle.store.specs.Places.View.{stored_at, view}
 
--- the Data in a row, and its place
-unfoldable pub hit : List Row → ℕ → Hit
-hit rows i = record { place = i; what = stored_at rows i }
+-- the Data at a place, and the place
+unfoldable pub hit : Store → ℕ → Hit
+hit s i = record { place = i; what = stored_at s i }
 
 -- what a place means, if there is one
-unfoldable pub hit_at : List Row → code.Option ℕ → Option Hit
-hit_at rows code.Option.None = none
-hit_at rows (code.Option.Some i) = some (hit rows i)
+unfoldable pub hit_at : Store → code.Option ℕ → Option Hit
+hit_at s code.Option.None = none
+hit_at s (code.Option.Some i) = some (hit s i)
 
 -- whether a name is the one asked for or, where a prefix will do, extends it
 unfoldable pub answers : List ℕ → Bool → List ℕ → Bool

@@ -1,4 +1,4 @@
--- The row has room for the bytes, so they are written whole.
+-- The packet has room for the bytes, so they are written whole.
 use Rattle.std.proofs.Math.Seq.{take-append_seam}
 use Rattle.store.specs.Places.View.{stored_of, data_of}
 use Rattle.store.proofs.Row.fill.Goals as goal

@@ -1,4 +1,4 @@
--- The name of the bytes that the length cuts off the row.
+-- The name of the bytes that the length cuts off the packet.
 use Rattle.std.proofs.Common.{ap, ◌∙◌}
 use Rattle.packethead.specs.Name.{name_of}
 use Rattle.store.specs.Places.View.{stored_of, data_of}

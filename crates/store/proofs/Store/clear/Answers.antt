@@ -10,4 +10,4 @@ pub returns-clause-counted : goal.returns-clause-counted
 returns-clause-counted c = count_empty _ refl
 
 pub returns-clause-rows : goal.returns-clause-rows
-returns-clause-rows c = record { rows = refl }
+returns-clause-rows c = record { packets = refl; rows = refl }

@@ -10,7 +10,7 @@ use Rattle.store.proofs.Store.look.Goals as goal
 pub loop-i-init : goal.loop-i-init
 loop-i-init c =
     let a = c.args in
-    (tt, best_end (serves a.time a.name.now a.prefix a.fresh) a.self.now c.len-i.result c.len-i.ensures ∙ sym (hit_out a.self.now.rows))
+    (tt, best_end (serves a.time a.name.now a.prefix a.fresh) a.self.now c.len-i.result c.len-i.ensures ∙ sym (hit_out a.self.now))
 
 pub loop-i-preserved-then-is_served : goal.loop-i-preserved-then-is_served
 unfolding stored_at
@@ -22,7 +22,7 @@ loop-i-preserved-then-is_served c =
       best_taken p s (c.loop-i.i - 1) c.loop-i.i (omega arith) (omega arith) (sym c.is_served.ensures ∙ c.if-is_served.true)
           ∙ ap (earlier _) c.loop-i.invariant.1
           ∙ sym c.earlier_of.ensures.earlier
-          ∙ sym (hit_in s.rows c.earlier_of.result),
+          ∙ sym (hit_in s c.earlier_of.result),
     )
 
 pub loop-i-preserved : goal.loop-i-preserved
@@ -42,6 +42,6 @@ returns c =
     let s = a.self.now in
     let p = serves a.time a.name.now a.prefix a.fresh in
     let z : c.loop-i.i ≡ 0 = omega arith in
-    let e : best_from p s 0 ≡ hit_at s.rows c.loop-i.best = rw z at c.loop-i.invariant.1 in
+    let e : best_from p s 0 ≡ hit_at s c.loop-i.best = rw z at c.loop-i.invariant.1 in
     looks_at a.time a.name.now a.prefix a.fresh s _ c.loop-i.best _ (sym (best_all a.time a.name.now a.prefix a.fresh s) ∙ e)
     (λ i h k. search rules) c.map.ensures.cases

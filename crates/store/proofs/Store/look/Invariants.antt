@@ -7,4 +7,4 @@ use Rattle.store.proofs.Store.look.Given as goal
 
 abbrev pub invariant-loop-i : goal.invariant-loop-i
 invariant-loop-i l =
-    IfSome l.best (λ b. b < most_stored) × (best_from (serves l.time l.name l.prefix l.fresh) l.self l.i ≡ hit_at l.self.rows l.best)
+    IfSome l.best (λ b. b < most_stored) × (best_from (serves l.time l.name l.prefix l.fresh) l.self l.i ≡ hit_at l.self l.best)

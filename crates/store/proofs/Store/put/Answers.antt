@@ -19,6 +19,12 @@ offset_bounds-self-self c = omega (arith, c.make_room.ensures.room, c.make_room.
 pub bounds-self-self : goal.bounds-self-self
 bounds-self-self c = omega (arith, c.make_room.ensures.room, c.make_room.ensures.counted, count_is c.make_room.new.self)
 
+pub offset_bounds-self-self-2 : goal.offset_bounds-self-self-2
+offset_bounds-self-self-2 c = omega (arith, c.make_room.ensures.room, c.make_room.ensures.counted, count_is c.make_room.new.self)
+
+pub bounds-self-self-2 : goal.bounds-self-self-2
+bounds-self-self-2 c = omega (arith, c.make_room.ensures.room, c.make_room.ensures.counted, count_is c.make_room.new.self)
+
 pub overflow_add-self : goal.overflow_add-self
 overflow_add-self c = omega (arith, c.make_room.ensures.room, c.make_room.ensures.counted, count_is c.make_room.new.self)
 
@@ -27,9 +33,10 @@ returns-clause-puts c =
     let a = c.args in
     let e = c.make_room.ensures in
     let s = c.make_room.new.self in
+    let l : length s.packets ≡ most_stored = search rules in
     let n : length s.rows ≡ most_stored = search rules in
-    put_short a.bytes.now a.time a.freshness a.self.now s.rows s.count _ (omega arith) (omega (arith, e.room, e.counted, count_is s)) n
-    (rw c.find_name.ensures at e.gone) c.fill.ensures
+    put_short a.bytes.now a.time a.freshness a.self.now s.packets s.rows s.count _ _ (omega arith)
+    (omega (arith, e.room, e.counted, count_is s)) l n (rw c.find_name.ensures at e.gone) c.fill.ensures
 
 pub returns-clause-counted : goal.returns-clause-counted
 returns-clause-counted c =

@@ -8,7 +8,7 @@ use Rattle.records.specs.Slots.{given}
 use Rattle.routes.specs.Operations.{hops_of}
 use Rattle.routes.specs.declared.Row.{Row}
 use Rattle.routes.specs.Laws.Hop.{row_hops}
-use Rattle.routes.proofs.Routes.hops_of.Goals as goal
+use Rattle.routes.proofs.Known.hops_of.Goals as goal
 
 pub returns : goal.returns
 unfolding given

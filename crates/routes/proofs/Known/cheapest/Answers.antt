@@ -4,14 +4,15 @@ use Rattle.sizes.specs.Sizes.{most_faces}
 use Rattle.records.specs.Slots.{given}
 use Rattle.faces.specs.Found.{face_in}
 use Rattle.routes.specs.Places.View.{route_at, place_is, view_place, view_none}
+use Rattle.routes.specs.Places.Parts.{known_routes}
 use Rattle.routes.specs.Laws.Hop.{row_cheapest}
-use Rattle.routes.proofs.Routes.cheapest.Goals as goal
+use Rattle.routes.proofs.Known.cheapest.Goals as goal
 
 pub returns-then-i-cut : goal.returns-then-i-cut
 unfolding given route_at
 returns-then-i-cut c =
     let a = c.args in
-    let t = a.self.now in
+    let t = known_routes a.self in
     rw (
       place_is t a.route,
       view_place most_faces t a.route.at (omega (arith, c.cut.ensures)),
@@ -23,5 +24,5 @@ pub returns-else-i-cut : goal.returns-else-i-cut
 unfolding given face_in
 returns-else-i-cut c =
     let a = c.args in
-    let t = a.self.now in
+    let t = known_routes a.self in
     rw (place_is t a.route, view_none most_faces t a.route.at (omega (arith, c.cut.ensures)))

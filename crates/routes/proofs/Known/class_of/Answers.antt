@@ -6,7 +6,7 @@ use mathlib.Core.Path.{sym}
 use Rattle.records.specs.Slots.{given}
 use Rattle.routes.specs.Operations.{class_word}
 use Rattle.routes.specs.Laws.Setting.{row_word}
-use Rattle.routes.proofs.Routes.class_of.Goals as goal
+use Rattle.routes.proofs.Known.class_of.Goals as goal
 
 pub returns : goal.returns
 unfolding given
