@@ -87,9 +87,10 @@ pub renew_same : (κs : Lfts 2) (a b : Dens κs renew-kinds.ps) (x y : (res_t re
     → (place_of (table n a.0.now a.1.0.now k a.1.1.0) a.1.1.1.0 ≡ place_of (table m b.0.now b.1.0.now l b.1.1.0) b.1.1.1.0)
     → (a.1.1.1.1.0 ≡ b.1.1.1.1.0) → (a.1.1.1.1.1.0 ≡ b.1.1.1.1.1.0) → (a.1.1.1.1.1.1.0 ≡ b.1.1.1.1.1.1.0)
     → renew-reads.Post κs a x s → renew-reads.Post κs b y t
-    → view (table n s.0.now s.1.0.now k a.1.1.0) ≡ view (table m t.0.now t.1.0.now l b.1.1.0)
+    → (view (table n s.0.now s.1.0.now k a.1.1.0) ≡ view (table m t.0.now t.1.0.now l b.1.1.0))
+    × (place_of (table n s.0.now s.1.0.now k a.1.1.0) a.1.1.1.0 ≡ place_of (table m t.0.now t.1.0.now l b.1.1.0) b.1.1.1.0)
 renew_same κs a b x y s t n m k l e h e1 e2 e3 p q =
-    p n k ∙ changed_alike (ap3 (λ (f n x : ℕ). asking f (record { nonce = n; expiry = x })) e1 e2 e3) h e ∙ sym (q m l)
+    (p n k ∙ changed_alike (ap3 (λ (f n x : ℕ). asking f (record { nonce = n; expiry = x })) e1 e2 e3) h e ∙ sym (q m l), h)
 
 -- Ends the requests of the faces of a set, all at once
 pub end_requests_same : (κs : Lfts 2) (a b : Dens κs end-requests-kinds.ps) (x y : (res_t end-requests-kinds.r κs).Denot)
@@ -98,9 +99,10 @@ pub end_requests_same : (κs : Lfts 2) (a b : Dens κs end-requests-kinds.ps) (x
     → (place_of (table n a.0.now a.1.0.now k a.1.1.0) a.1.1.1.0 ≡ place_of (table m b.0.now b.1.0.now l b.1.1.0) b.1.1.1.0)
     → (a.1.1.1.1.0 ≡ b.1.1.1.1.0)
     → end-requests-reads.Post κs a x s → end-requests-reads.Post κs b y t
-    → view (table n s.0.now a.1.0.now k a.1.1.0) ≡ view (table m t.0.now b.1.0.now l b.1.1.0)
+    → (view (table n s.0.now a.1.0.now k a.1.1.0) ≡ view (table m t.0.now b.1.0.now l b.1.1.0))
+    × (place_of (table n s.0.now a.1.0.now k a.1.1.0) a.1.1.1.0 ≡ place_of (table m t.0.now b.1.0.now l b.1.1.0) b.1.1.1.0)
 end_requests_same κs a b x y s t n m k l e h e1 p q =
-    p n k ∙ changed_alike (ap (λ (k : ℕ). ending (has_face most_faces k)) e1) h e ∙ sym (q m l)
+    (p n k ∙ changed_alike (ap (λ (k : ℕ). ending (has_face most_faces k)) e1) h e ∙ sym (q m l), h)
 
 -- "A send sets the out-record anew, its Nack reason cleared."
 pub send_same : (κs : Lfts 2) (a b : Dens κs send-kinds.ps) (x y : (res_t send-kinds.r κs).Denot)
@@ -109,9 +111,10 @@ pub send_same : (κs : Lfts 2) (a b : Dens κs send-kinds.ps) (x y : (res_t send
     → (place_of (table n a.0.now a.1.0.now k a.1.1.0) a.1.1.1.0 ≡ place_of (table m b.0.now b.1.0.now l b.1.1.0) b.1.1.1.0)
     → (a.1.1.1.1.0 ≡ b.1.1.1.1.0) → (a.1.1.1.1.1.0 ≡ b.1.1.1.1.1.0) → (a.1.1.1.1.1.1.0 ≡ b.1.1.1.1.1.1.0)
     → send-reads.Post κs a x s → send-reads.Post κs b y t
-    → view (table n s.0.now s.1.0.now k a.1.1.0) ≡ view (table m t.0.now t.1.0.now l b.1.1.0)
+    → (view (table n s.0.now s.1.0.now k a.1.1.0) ≡ view (table m t.0.now t.1.0.now l b.1.1.0))
+    × (place_of (table n s.0.now s.1.0.now k a.1.1.0) a.1.1.1.0 ≡ place_of (table m t.0.now t.1.0.now l b.1.1.0) b.1.1.1.0)
 send_same κs a b x y s t n m k l e h e1 e2 e3 p q =
-    p n k ∙ changed_alike (ap3 (λ (f n x : ℕ). sending f (record { nonce = n; time = x; nacked = none })) e1 e2 e3) h e ∙ sym (q m l)
+    (p n k ∙ changed_alike (ap3 (λ (f n x : ℕ). sending f (record { nonce = n; time = x; nacked = none })) e1 e2 e3) h e ∙ sym (q m l), h)
 
 -- Takes a face's out-record out
 pub end_sent_same : (κs : Lfts 2) (a b : Dens κs end-sent-kinds.ps) (x y : (res_t end-sent-kinds.r κs).Denot)
@@ -120,9 +123,10 @@ pub end_sent_same : (κs : Lfts 2) (a b : Dens κs end-sent-kinds.ps) (x y : (re
     → (place_of (table n a.0.now a.1.0.now k a.1.1.0) a.1.1.1.0 ≡ place_of (table m b.0.now b.1.0.now l b.1.1.0) b.1.1.1.0)
     → (a.1.1.1.1.0 ≡ b.1.1.1.1.0)
     → end-sent-reads.Post κs a x s → end-sent-reads.Post κs b y t
-    → view (table n s.0.now a.1.0.now k a.1.1.0) ≡ view (table m t.0.now b.1.0.now l b.1.1.0)
+    → (view (table n s.0.now a.1.0.now k a.1.1.0) ≡ view (table m t.0.now b.1.0.now l b.1.1.0))
+    × (place_of (table n s.0.now a.1.0.now k a.1.1.0) a.1.1.1.0 ≡ place_of (table m t.0.now b.1.0.now l b.1.1.0) b.1.1.1.0)
 end_sent_same κs a b x y s t n m k l e h e1 p q =
-    p n k ∙ changed_alike (ap not_sent e1) h e ∙ sym (q m l)
+    (p n k ∙ changed_alike (ap not_sent e1) h e ∙ sym (q m l), h)
 
 -- "Reasons other than 50, 100, 150 become 0, still Nacked.": marks a face's out-record
 pub mark_nacked_same : (κs : Lfts 2) (a b : Dens κs mark-nacked-kinds.ps) (x y : (res_t mark-nacked-kinds.r κs).Denot)
@@ -131,9 +135,10 @@ pub mark_nacked_same : (κs : Lfts 2) (a b : Dens κs mark-nacked-kinds.ps) (x y
     → (place_of (table n a.0.now a.1.0.now k a.1.1.0) a.1.1.1.0 ≡ place_of (table m b.0.now b.1.0.now l b.1.1.0) b.1.1.1.0)
     → (a.1.1.1.1.0 ≡ b.1.1.1.1.0) → (a.1.1.1.1.1.0 ≡ b.1.1.1.1.1.0)
     → mark-nacked-reads.Post κs a x s → mark-nacked-reads.Post κs b y t
-    → view (table n a.0.now s.1.0.now k a.1.1.0) ≡ view (table m b.0.now t.1.0.now l b.1.1.0)
+    → (view (table n a.0.now s.1.0.now k a.1.1.0) ≡ view (table m b.0.now t.1.0.now l b.1.1.0))
+    × (place_of (table n a.0.now s.1.0.now k a.1.1.0) a.1.1.1.0 ≡ place_of (table m b.0.now t.1.0.now l b.1.1.0) b.1.1.1.0)
 mark_nacked_same κs a b x y s t n m k l e h e1 e2 p q =
-    p n k ∙ changed_alike (ap2 with_nack e1 e2) h e ∙ sym (q m l)
+    (p n k ∙ changed_alike (ap2 with_nack e1 e2) h e ∙ sym (q m l), h)
 
 -- Ends the requests that are over; the set of their faces
 pub age_same : (κs : Lfts 2) (a b : Dens κs age-kinds.ps) (x y : (res_t age-kinds.r κs).Denot)
@@ -143,10 +148,11 @@ pub age_same : (κs : Lfts 2) (a b : Dens κs age-kinds.ps) (x y : (res_t age-ki
     → (a.1.1.1.1.0 ≡ b.1.1.1.1.0)
     → age-reads.Post κs a x s → age-reads.Post κs b y t
     → (x ≡ y) × (view (table n s.0.now a.1.0.now k a.1.1.0) ≡ view (table m t.0.now b.1.0.now l b.1.1.0))
+    × (place_of (table n s.0.now a.1.0.now k a.1.1.0) a.1.1.1.0 ≡ place_of (table m t.0.now b.1.0.now l b.1.1.0) b.1.1.1.0)
 age_same κs a b x y s t n m k l e h e1 p q = (
   p.1 n k ∙ said_alike 0 (ap (overdue_faces most_faces) e1) h e ∙ sym (q.1 m l),
-  p.0 n k ∙ changed_alike (ap aged_entry e1) h e ∙ sym
-      (q.0 m l),
+  p.0 n k ∙ changed_alike (ap aged_entry e1) h e ∙ sym (q.0 m l),
+  h,
 )
 
 -- The faces with a request

@@ -13,8 +13,9 @@ use Rattle.happenings.specs.Noted.{most_rows}
 use Rattle.happenings.specs.Laws.Noted.{notes_one}
 use Rattle.pending_entry.specs.Laws.Change.{asked_same}
 use Rattle.pending_records.specs.Laws.Nacks.{nacks_same}
-use Rattle.pending_table.specs.Places.View.{view, marks_of}
+use Rattle.pending_table.specs.Places.View.{view, marks_of, Stands}
 use Rattle.pending_table.specs.Places.Parts.{table, seen}
+use Rattle.pending_table.specs.Laws.Same.{stands_parts}
 use Rattle.pending_handle.proofs.renew.Kinds as renew-kinds
 use Rattle.pending_handle.proofs.renew.Reads as renew-reads
 use Rattle.pending_handle.proofs.end_requests.Kinds as end-requests-kinds
@@ -64,47 +65,53 @@ use Rattle.pending_handle.proofs.note_face.Reads as note-face-reads
 use Rattle.pending_handle.proofs.overdue_entries.Kinds as overdue-entries-kinds
 use Rattle.pending_handle.proofs.overdue_entries.Reads as overdue-entries-reads
 
--- two outcomes have the same entries: "open this face's request, or renew it with the new nonce and expiry"
+-- two outcomes have the same entries, where they stood: "open this face's request, or renew it with the new nonce and expiry"
 pub renew_one : (κs : Lfts 2) (a : Dens κs renew-kinds.ps) (x y : (res_t renew-kinds.r κs).Denot)
     (s t : AtExit (ended_of 2 renew-kinds.ps renew-kinds.r) κs) (n : List (List ℕ)) (k : List ℕ)
     → renew-reads.Post κs a x s → renew-reads.Post κs a y t
-    → view (table n s.0.now s.1.0.now k a.1.1.0) ≡ view (table n t.0.now t.1.0.now k a.1.1.0)
-renew_one κs a x y s t n k p q = p n k ∙ sym (q n k)
+    → (view (table n s.0.now s.1.0.now k a.1.1.0) ≡ view (table n t.0.now t.1.0.now k a.1.1.0))
+    × Stands (table n s.0.now s.1.0.now k a.1.1.0) (table n t.0.now t.1.0.now k a.1.1.0)
+renew_one κs a x y s t n k p q = (p n k ∙ sym (q n k), stands_parts n n _ _ _ _ k _)
 
--- two outcomes have the same entries: Ends the requests of the faces of a set, all at once
+-- two outcomes have the same entries, where they stood: Ends the requests of the faces of a set, all at once
 pub end_requests_one : (κs : Lfts 2) (a : Dens κs end-requests-kinds.ps) (x y : (res_t end-requests-kinds.r κs).Denot)
     (s t : AtExit (ended_of 2 end-requests-kinds.ps end-requests-kinds.r) κs) (n : List (List ℕ)) (k : List ℕ)
     → end-requests-reads.Post κs a x s → end-requests-reads.Post κs a y t
-    → view (table n s.0.now a.1.0.now k a.1.1.0) ≡ view (table n t.0.now a.1.0.now k a.1.1.0)
-end_requests_one κs a x y s t n k p q = p n k ∙ sym (q n k)
+    → (view (table n s.0.now a.1.0.now k a.1.1.0) ≡ view (table n t.0.now a.1.0.now k a.1.1.0))
+    × Stands (table n s.0.now a.1.0.now k a.1.1.0) (table n t.0.now a.1.0.now k a.1.1.0)
+end_requests_one κs a x y s t n k p q = (p n k ∙ sym (q n k), stands_parts n n _ _ _ _ k _)
 
--- two outcomes have the same entries: "A send sets the out-record anew, its Nack reason cleared."
+-- two outcomes have the same entries, where they stood: "A send sets the out-record anew, its Nack reason cleared."
 pub send_one : (κs : Lfts 2) (a : Dens κs send-kinds.ps) (x y : (res_t send-kinds.r κs).Denot)
     (s t : AtExit (ended_of 2 send-kinds.ps send-kinds.r) κs) (n : List (List ℕ)) (k : List ℕ)
     → send-reads.Post κs a x s → send-reads.Post κs a y t
-    → view (table n s.0.now s.1.0.now k a.1.1.0) ≡ view (table n t.0.now t.1.0.now k a.1.1.0)
-send_one κs a x y s t n k p q = p n k ∙ sym (q n k)
+    → (view (table n s.0.now s.1.0.now k a.1.1.0) ≡ view (table n t.0.now t.1.0.now k a.1.1.0))
+    × Stands (table n s.0.now s.1.0.now k a.1.1.0) (table n t.0.now t.1.0.now k a.1.1.0)
+send_one κs a x y s t n k p q = (p n k ∙ sym (q n k), stands_parts n n _ _ _ _ k _)
 
--- two outcomes have the same entries: Takes a face's out-record out
+-- two outcomes have the same entries, where they stood: Takes a face's out-record out
 pub end_sent_one : (κs : Lfts 2) (a : Dens κs end-sent-kinds.ps) (x y : (res_t end-sent-kinds.r κs).Denot)
     (s t : AtExit (ended_of 2 end-sent-kinds.ps end-sent-kinds.r) κs) (n : List (List ℕ)) (k : List ℕ)
     → end-sent-reads.Post κs a x s → end-sent-reads.Post κs a y t
-    → view (table n s.0.now a.1.0.now k a.1.1.0) ≡ view (table n t.0.now a.1.0.now k a.1.1.0)
-end_sent_one κs a x y s t n k p q = p n k ∙ sym (q n k)
+    → (view (table n s.0.now a.1.0.now k a.1.1.0) ≡ view (table n t.0.now a.1.0.now k a.1.1.0))
+    × Stands (table n s.0.now a.1.0.now k a.1.1.0) (table n t.0.now a.1.0.now k a.1.1.0)
+end_sent_one κs a x y s t n k p q = (p n k ∙ sym (q n k), stands_parts n n _ _ _ _ k _)
 
--- two outcomes have the same entries: "Reasons other than 50, 100, 150 become 0, still Nacked.": marks a face's out-record
+-- two outcomes have the same entries, where they stood: "Reasons other than 50, 100, 150 become 0, still Nacked.": marks an out-record
 pub mark_nacked_one : (κs : Lfts 2) (a : Dens κs mark-nacked-kinds.ps) (x y : (res_t mark-nacked-kinds.r κs).Denot)
     (s t : AtExit (ended_of 2 mark-nacked-kinds.ps mark-nacked-kinds.r) κs) (n : List (List ℕ)) (k : List ℕ)
     → mark-nacked-reads.Post κs a x s → mark-nacked-reads.Post κs a y t
-    → view (table n a.0.now s.1.0.now k a.1.1.0) ≡ view (table n a.0.now t.1.0.now k a.1.1.0)
-mark_nacked_one κs a x y s t n k p q = p n k ∙ sym (q n k)
+    → (view (table n a.0.now s.1.0.now k a.1.1.0) ≡ view (table n a.0.now t.1.0.now k a.1.1.0))
+    × Stands (table n a.0.now s.1.0.now k a.1.1.0) (table n a.0.now t.1.0.now k a.1.1.0)
+mark_nacked_one κs a x y s t n k p q = (p n k ∙ sym (q n k), stands_parts n n _ _ _ _ k _)
 
 -- two outcomes are the same: Ends the requests that are over; the set of their faces
 pub age_one : (κs : Lfts 2) (a : Dens κs age-kinds.ps) (x y : (res_t age-kinds.r κs).Denot)
     (s t : AtExit (ended_of 2 age-kinds.ps age-kinds.r) κs) (n : List (List ℕ)) (k : List ℕ)
     → age-reads.Post κs a x s → age-reads.Post κs a y t
     → (x ≡ y) × (view (table n s.0.now a.1.0.now k a.1.1.0) ≡ view (table n t.0.now a.1.0.now k a.1.1.0))
-age_one κs a x y s t n k p q = (p.1 n k ∙ sym (q.1 n k), p.0 n k ∙ sym (q.0 n k))
+    × Stands (table n s.0.now a.1.0.now k a.1.1.0) (table n t.0.now a.1.0.now k a.1.1.0)
+age_one κs a x y s t n k p q = (p.1 n k ∙ sym (q.1 n k), p.0 n k ∙ sym (q.0 n k), stands_parts n n _ _ _ _ k _)
 
 -- two outcomes are the same: The faces with a request
 pub asking_faces_one : (κs : Lfts 1) (a : Dens κs asking-faces-kinds.ps) (x y : (res_t asking-faces-kinds.r κs).Denot)

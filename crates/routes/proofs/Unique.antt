@@ -9,7 +9,7 @@ use denote.Triple.Clauses.{AtExit}
 use borrow.Fn.Kinds.{Dens, ended_of, res_t}
 use Rattle.routes.specs.declared.Count.{Count}
 use Rattle.routes.specs.Places.Parts.{table, known_routes}
-use Rattle.routes.specs.Places.View.{view, count_of, count_one, found_one}
+use Rattle.routes.specs.Places.View.{view, count_of, count_is, count_one, found_one}
 use Rattle.routes.proofs.Count.none.Kinds as none-kinds
 use Rattle.routes.proofs.Count.none.Reads as none-reads
 use Rattle.routes.proofs.Routes.new.Kinds as new-kinds
@@ -89,19 +89,21 @@ pub remove_one : (κs : Lfts 1) (a : Dens κs remove-kinds.ps) (x y : (res_t rem
     → remove-reads.Post κs a x s → remove-reads.Post κs a y t → (count_of s.0.now ≡ count_of t.0.now) × (view s.0.now ≡ view t.0.now)
 remove_one κs a x y s t p q = same.remove_same κs a a x y s t refl refl p q
 
--- two outcomes of adding a hop leave the same routes, whatever the prefixes are
+-- two outcomes of adding a hop leave the same routes and count as many, whatever the prefixes are
 pub add_hop_one : (κs : Lfts 2) (a : Dens κs add-hop-kinds.ps) (x y : (res_t add-hop-kinds.r κs).Denot)
     (s t : AtExit (ended_of 2 add-hop-kinds.ps add-hop-kinds.r) κs) (n : List (List ℕ))
     → add-hop-reads.Post κs a x s → add-hop-reads.Post κs a y t
-    → view (table n s.0.now s.1.0.now a.1.1.0) ≡ view (table n t.0.now t.1.0.now a.1.1.0)
-add_hop_one κs a x y s t n p q = same.add_hop_same κs a a x y s t n n refl refl refl refl p q
+    → (count_of (table n s.0.now s.1.0.now a.1.1.0) ≡ count_of (table n t.0.now t.1.0.now a.1.1.0))
+    × (view (table n s.0.now s.1.0.now a.1.1.0) ≡ view (table n t.0.now t.1.0.now a.1.1.0))
+add_hop_one κs a x y s t n p q = (count_is _ ∙ sym (count_is _), same.add_hop_same κs a a x y s t n n refl refl refl refl p q)
 
--- two outcomes of dropping a hop leave the same routes, whatever the prefixes and the costs are
+-- two outcomes of dropping a hop leave the same routes and count as many, whatever the prefixes and the costs are
 pub drop_hop_one : (κs : Lfts 1) (a : Dens κs drop-hop-kinds.ps) (x y : (res_t drop-hop-kinds.r κs).Denot)
     (s t : AtExit (ended_of 1 drop-hop-kinds.ps drop-hop-kinds.r) κs) (n c : List (List ℕ))
     → drop-hop-reads.Post κs a x s → drop-hop-reads.Post κs a y t
-    → view (table n s.0.now c a.1.0) ≡ view (table n t.0.now c a.1.0)
-drop_hop_one κs a x y s t n c p q = same.drop_hop_same κs a a x y s t n n c c refl refl refl p q
+    → (count_of (table n s.0.now c a.1.0) ≡ count_of (table n t.0.now c a.1.0))
+    × (view (table n s.0.now c a.1.0) ≡ view (table n t.0.now c a.1.0))
+drop_hop_one κs a x y s t n c p q = (count_is _ ∙ sym (count_is _), same.drop_hop_same κs a a x y s t n n c c refl refl refl p q)
 
 -- two answers whether a face is a hop are the same
 pub has_hop_one : (κs : Lfts 1) (a : Dens κs has-hop-kinds.ps) (x y : (res_t has-hop-kinds.r κs).Denot)
@@ -109,12 +111,12 @@ pub has_hop_one : (κs : Lfts 1) (a : Dens κs has-hop-kinds.ps) (x y : (res_t h
     → has-hop-reads.Post κs a x s → has-hop-reads.Post κs a y t → x ≡ y
 has_hop_one κs a x y s t p q = same.has_hop_same κs a a x y s t [] [] [] [] refl refl refl p q
 
--- two outcomes of a face's closing leave the same routes, whatever the prefixes, the costs and the count are
+-- two outcomes of a face's closing leave the same routes and count as many, whatever the prefixes, the costs and the count are
 pub drop_face_one : (κs : Lfts 1) (a : Dens κs drop-face-kinds.ps) (x y : (res_t drop-face-kinds.r κs).Denot)
     (s t : AtExit (ended_of 1 drop-face-kinds.ps drop-face-kinds.r) κs) (n c : List (List ℕ)) (k : Count)
     → drop-face-reads.Post κs a x s → drop-face-reads.Post κs a y t
-    → view (table n s.0.now c k) ≡ view (table n t.0.now c k)
-drop_face_one κs a x y s t n c k p q = same.drop_face_same κs a a x y s t n n c c k k refl refl p q
+    → (count_of (table n s.0.now c k) ≡ count_of (table n t.0.now c k)) × (view (table n s.0.now c k) ≡ view (table n t.0.now c k))
+drop_face_one κs a x y s t n c k p q = (count_is _ ∙ sym (count_is _), same.drop_face_same κs a a x y s t n n c c k k refl refl p q)
 
 -- two longest matching routes are the same
 pub longest_one : (κs : Lfts 2) (a : Dens κs longest-kinds.ps) (x y : (res_t longest-kinds.r κs).Denot)

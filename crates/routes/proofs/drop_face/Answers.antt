@@ -38,4 +38,5 @@ unfolding route_at
 returns c =
     let rows = c.args.rows.now in
     let all : length rows ≡ most_routes = search rules in
-    λ p q n. view_all most_faces (table p rows q n) _ (with_hop c.args.face none) (λ k h. c.loop-row.invariant.done k (omega arith) _ _)
+    λ p q n. view_all most_faces (table p rows q n) _ (with_hop c.args.face none) refl
+    (λ k h. c.loop-row.invariant.done k (omega arith) _ _)

@@ -5,7 +5,7 @@ use Rattle.std.specs.Prelude.{◌≡◌, Bool, ◌&&◌, ◌≢◌}
 use Rattle.std.proofs.Math.Path.{refl, sym}
 use Rattle.std.proofs.Common.{◌∙◌, arith, add-one}
 use Rattle.std.proofs.Math.Bool.{true, false}
-use mathlib.Core.List.{List, [], ◌∷◌}
+use mathlib.Core.List.{List, ◌∷◌}
 use Rattle.std.proofs.Math.Option.{Option, none, some}
 use Rattle.std.proofs.Math.ListN.{get_or}
 use Rattle.laws.specs.Pick.{pick}
@@ -21,7 +21,7 @@ use Rattle.records.specs.Slots.{given, slot, is_some, held, held_from, only, lea
 use Rattle.records.specs.Route.{with_hop, cheapest_of}
 use Rattle.routes.specs.declared.Row.{Row}
 use Rattle.routes.specs.declared.Routes.{Routes}
-use Rattle.routes.specs.Places.View.{route_row, route_at, no_row}
+use Rattle.routes.specs.Places.View.{route_row, route_at}
 use Rattle.routes.specs.Operations.{hops_of}
 use Rattle.routes.specs.Places.Hop.{least_of}
 
@@ -43,10 +43,15 @@ module _ (n f : ℕ) (name : List ℕ) (r : Row) (old : List ℕ) where
   unfolding route_row
   row_has = sym (slots_has n r.hops (λ i. get_or old i 0) f)
 
--- a number that is no face sets no hop
+  -- a number that is no face sets no hop
+  pub row_past : (x : Option ℕ) → is_face n f ≡ false → route_row n name r old ≡ with_hop f x (route_row n name r old)
+  unfolding route_row with_hop
+  row_past x e = rw (slots_past n r.hops (λ i. get_or old i 0) f x e)
+
+-- it sets none of the route at a place
 pub past_hop : (n f : ℕ) (t : Routes) (x : Option ℕ) (i : ℕ) → is_face n f ≡ false → route_at n t i ≡ with_hop f x (route_at n t i)
-unfolding route_at route_row with_hop
-past_hop n f t x i e = rw (slots_past n (get_or t.rows i no_row).hops (λ k. get_or (get_or t.costs i []) k 0) f x e)
+unfolding route_at
+past_hop n f t x i e = row_past n f _ _ _ x e
 
 -- the set of the hops is what the faces of the row's set are
 pub row_hops : (n : ℕ) (name : List ℕ) (r : Row) (costs : List ℕ)

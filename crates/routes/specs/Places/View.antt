@@ -220,13 +220,13 @@ module _ (n : ℕ) (t : Routes) where
       (λ k _ _ d. o k (λ q. d (omega arith)))
 
   -- where each row means what it meant changed by g, each route is changed by g
-  pub view_all : (rows : List Row) (g : Route → Route)
-      → ((k : ℕ) → k < min t.count.count most_routes → route_at n (record t { rows = rows }) k ≡ g (route_at n t k))
-      → view_for n (record t { rows = rows }) ≡ map g (view_for n t)
+  pub view_all : (u : Routes) (g : Route → Route) → u.count ≡ t.count
+      → ((k : ℕ) → k < min t.count.count most_routes → route_at n u k ≡ g (route_at n t k))
+      → view_for n u ≡ map g (view_for n t)
   unfolding view_for
-  view_all rows g e =
-      tab_ext (route_at n (record t { rows = rows })) (λ k. g (route_at n t k)) 0 (min t.count.count most_routes)
-      (λ k _ h. e k (omega arith))
+  view_all u g c e =
+      ap (λ (c : Count). tab (route_at n u) 0 (min c.count most_routes)) c
+      ∙ tab_ext (route_at n u) (λ k. g (route_at n t k)) 0 (min t.count.count most_routes) (λ k _ h. e k (omega arith))
       ∙ sym (map_tab g (route_at n t) 0 (min t.count.count most_routes))
 
   -- a change that leaves the route at a place as it is leaves all
