@@ -117,17 +117,15 @@ fn used_after(t: Shown, h: Handle, nonces: &mut Dead, start: u64, time: u64) -> 
     ensures absent { entry_at (seen t.entry) h ≡ none → (result ≡ t.entry.used) × (nonces.new ≡ nonces.old) }
 {
     let mut used = t.used;
-    if is_there(used, h) {
-        if is_idle(t, h) {
-            bury(t, h, nonces, start, time);
-            take_out(&mut used, h);
-            used
-        } else {
-            used
-        }
-    } else {
-        used
+    if !is_there(used, h) {
+        return used;
     }
+    if !is_idle(t, h) {
+        return used;
+    }
+    bury(t, h, nonces, start, time);
+    take_out(&mut used, h);
+    used
 }
 
 // An entry without requests is buried and leaves. A handle of no entry changes nothing.

@@ -8,7 +8,7 @@ use contract.Lifetimes.{Lfts}
 use denote.Triple.Clauses.{AtExit}
 use borrow.Fn.Kinds.{Dens, ended_of, res_t}
 use Rattle.routes.specs.declared.Count.{Count}
-use Rattle.routes.specs.Places.Parts.{table, known_routes}
+use Rattle.routes.specs.Places.Parts.{table}
 use Rattle.routes.specs.Places.View.{view, count_of, count_is, count_one, found_one}
 use Rattle.routes.proofs.Count.none.Kinds as none-kinds
 use Rattle.routes.proofs.Count.none.Reads as none-reads

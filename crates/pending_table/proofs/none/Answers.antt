@@ -1,5 +1,4 @@
 -- A table of no used rows has no entries.
-use mathlib.Core.Path.{refl}
 use Rattle.sizes.specs.Sizes.{most_faces}
 use Rattle.pending_table.specs.Places.View.{view_empty}
 use Rattle.pending_table.proofs.none.Goals as goal

@@ -1,6 +1,5 @@
 -- A memory whose tables count nothing is that of an empty node.
-use mathlib.Core.Path.{◌∙◌, sym, ap}
-use Rattle.std.specs.Prelude.{ℕ}
+use mathlib.Core.Path.{◌∙◌, ap}
 use Rattle.faces.specs.Places.View.{view}
 use Rattle.pending_table.specs.Places.View as entries
 use Rattle.pending_table.specs.Places.Parts.{table}
