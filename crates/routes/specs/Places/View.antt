@@ -28,6 +28,7 @@ use Rattle.records.specs.Laws.Class.{class_number_lem}
 use Rattle.records.specs.Slots.{at_place, is_some}
 use Rattle.records.specs.Laws.Place.{at_place_tab}
 use Rattle.records.specs.Route.{Route}
+pub use Rattle.rows.specs.Places.Moved.{Moved}
 use Rattle.routes.specs.declared.Row.{Row}
 use Rattle.routes.specs.declared.Count.{Count}
 use Rattle.routes.specs.declared.Routes.{Routes}
@@ -125,11 +126,6 @@ found_one t None None e = refl
 found_one t None (Some k) e = absurd (none-ne-some _ e)
 found_one t (Some h) None e = absurd (none-ne-some _ (sym e))
 found_one t (Some h) (Some k) e = ap (λ (j : Handle). Some j) (place_one t h k (some-injective _ _ e))
-
--- of m, those after place i stand one place down, those before it as they were
-pub record Moved {A : Type 0} (z : A) (i m : ℕ) (l r : List A) : Type 0 where
-  pub before : (k : ℕ) → k < i → get_or r k z ≡ get_or l k z
-  pub after : (k : ℕ) → i ≤ k → k < m - 1 → get_or r k z ≡ get_or l (k + 1) z
 
 module _ (n : ℕ) (t : Routes) where
   -- there are as many routes as are counted, at most most_routes

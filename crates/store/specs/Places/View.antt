@@ -26,6 +26,7 @@ use Rattle.packethead.specs.Name.{name_of}
 use Rattle.records.specs.Slots.{at_place, is_some}
 use Rattle.records.specs.Laws.Place.{place_in_lem, place_past}
 use Rattle.records.specs.Stored.{Stored}
+pub use Rattle.rows.specs.Places.Moved.{Moved}
 use Rattle.store.specs.declared.Row.{Row}
 use Rattle.store.specs.declared.Store.{Store}
 use Rattle.store.specs.declared.Handle.{Handle}
@@ -222,11 +223,6 @@ view_take packets rows m n h l =
     let a : min n most_stored ≡ n = omega arith in
     let b : min m most_stored ≡ m = omega arith in
     rw (a, b) (tab_take (stored_at (table packets rows m)) 0 m n h)
-
--- of n, those before place i as they were, those after it one place down
-pub record Moved {A : Type 0} (z : A) (i n : ℕ) (old new : List A) : Type 0 where
-  pub before : (k : ℕ) → k < i → get_or new k z ≡ get_or old k z
-  pub after : (k : ℕ) → i ≤ k → k + 1 < n → get_or new k z ≡ get_or old (k + 1) z
 
 -- packets and rows of which those after a place stand one place down leave the Data without the one at that place
 pub view_without : (s : Store) (packets : List (List ℕ)) (rows : List Row) (i n : ℕ) → n ≡ min s.count most_stored → i < n
